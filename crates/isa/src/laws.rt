@@ -1,0 +1,35 @@
+// What holds of all words and instructions, on the contracts of calls that use it.
+ghost use mathlib.Core.Path.{_≡_};
+ghost use Rattle.std.specs.declared.option.Option.the-variants.{Some, None};
+ghost use Rattle.isa.specs.Laws.{Read-back, Written-back, Defined-words};
+ghost use Rattle.isa.specs.Words.{decoded};
+use crate::decoding::decode;
+use crate::encoding::encode;
+use crate::instruction::Instruction;
+
+// An instruction, encoded and decoded again: itself.
+pub fn reread(instruction: Instruction) -> Option<Instruction>
+    ensures all { λ _. ⌜ Read-back ⌝ }
+    ensures same { λ r. ⌜ r ≡ Some instruction ⌝ }
+{
+    decode(encode(instruction))
+}
+
+// A word, decoded and encoded again: itself, or none where it is undefined.
+pub fn rewritten(word: u16) -> Option<u16>
+    ensures all { λ _. ⌜ Written-back ⌝ }
+    ensures same { λ r. ⌜ elim (decoded word) [ Some i ↦ r ≡ Some word | None ↦ r ≡ None ] ⌝ }
+{
+    match decode(word) {
+        Some(instruction) => Some(encode(instruction)),
+        None => None,
+    }
+}
+
+// How many words are defined.
+pub fn defined_words() -> u16
+    ensures count { λ _. ⌜ Defined-words ⌝ }
+    ensures answer { λ r. ⌜ r ≡ 55108 ⌝ }
+{
+    55_108
+}

@@ -1,0 +1,18 @@
+// The instructions of the MiniRISC processor: their words and their text.
+mod decoding;
+mod encoding;
+mod instruction;
+mod laws;
+mod register;
+
+pub use decoding::decode;
+pub use encoding::encode;
+pub use instruction::AluOperation;
+pub use instruction::Condition;
+pub use instruction::Instruction;
+pub use instruction::Operand;
+pub use instruction::ShiftOperation;
+pub use laws::defined_words;
+pub use laws::reread;
+pub use laws::rewritten;
+pub use register::RegisterName;

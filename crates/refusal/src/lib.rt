@@ -1,0 +1,5 @@
+// What the toolkit refuses: a number, a name and a place for each case.
+mod describe;
+mod refusal;
+
+pub use refusal::Refusal;
