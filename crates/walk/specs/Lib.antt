@@ -1,0 +1,5 @@
+pub mod Sets
+pub mod Walk
+pub mod Frames
+pub mod Passes
+pub mod Result
