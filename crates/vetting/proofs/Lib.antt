@@ -1,1 +1,4 @@
 pub mod Sheets
+pub mod Judge
+pub mod Vetting
+pub mod Unique

@@ -31,9 +31,9 @@ module _ (test : ℕ → Bool) where
 pub beyond-ranges : (sheet : List ℕ) (a : ℕ) → 256 ≤ a → in-ranges sheet a ≡ false
 beyond-ranges sheet a ge =
     any-none (covers a) sheet (λ i lt.
-      let w = getD sheet i 0 in
-      let over : leb a (last-of w) ≡ false = lt-leb a (last-of w) (omega arith) in
-      and-right (eqb (kind w) 0) _ (and-right (leb (first-of w) a) _ over))
+    let w = getD sheet i 0 in
+    let over : leb a (last-of w) ≡ false = lt-leb a (last-of w) (omega arith) in
+    and-right (eqb (kind w) 0) _ (and-right (leb (first-of w) a) _ over))
 
 pub beyond-handlers : (sheet : List ℕ) (r : ℕ) → 16 ≤ r → handles sheet r ≡ false
 beyond-handlers sheet r ge =
@@ -47,6 +47,6 @@ pub tabled : (n : ℕ) (xs : List Bool) (test : ℕ → Bool) → length xs ≡ 
     ((k : ℕ) → n ≤ k → test k ≡ false) → (a : ℕ) → getD xs a false ≡ test a
 tabled n xs test long same past a =
     elim (cases-lt a n) [
-      inl lt ↦ same a lt
-    | inr ge ↦ getD-past xs a false (omega arith) ∙ sym (past a ge)
+      | inl lt ↦ same a lt
+      | inr ge ↦ getD-past xs a false (omega arith) ∙ sym (past a ge)
     ]

@@ -1,3 +1,4 @@
 pub mod Sheets
 pub mod Programs
 pub mod Verdicts
+pub mod Judging

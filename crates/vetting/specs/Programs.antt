@@ -28,33 +28,41 @@ pub record Program : Type 0 where
   pub ranges : ℕ → Bool
   pub handlers : ℕ → Bool
 
--- the instruction at an address; undefined words hold none, and nothing stands past the image
+-- the instruction at an address of an image; undefined words hold none, and nothing stands past the image
+abbrev pub instruction-in : List ℕ → ℕ → Option Instruction
+instruction-in image a = getD (map decoded image) a None
+
+-- the instruction at an address of a program
 abbrev pub instruction-at : Program → ℕ → Option Instruction
-instruction-at p a = getD (map decoded (p .image)) a None
+instruction-at p = instruction-in (p .image)
 
--- a jump leads to its target, a conditional one to the next address as well
-abbrev pub jump-flow : Condition → ℕ → Flow
-jump-flow Always t = Jumps t
-jump-flow Zero t = Branch t
-jump-flow NotZero t = Branch t
-jump-flow Carry t = Branch t
-jump-flow NoCarry t = Branch t
-jump-flow Negative t = Branch t
-jump-flow NotNegative t = Branch t
-jump-flow Overflow t = Branch t
-jump-flow NoOverflow t = Branch t
+-- a jump to a constant address leads there, a conditional one to the next address as well; through a register it leads nowhere
+abbrev pub jump-flow : Condition → Operand → Flow
+jump-flow c (Register y) = Nowhere
+jump-flow Always (Constant t) = Jumps t
+jump-flow Zero (Constant t) = Branch t
+jump-flow NotZero (Constant t) = Branch t
+jump-flow Carry (Constant t) = Branch t
+jump-flow NoCarry (Constant t) = Branch t
+jump-flow Negative (Constant t) = Branch t
+jump-flow NotNegative (Constant t) = Branch t
+jump-flow Overflow (Constant t) = Branch t
+jump-flow NoOverflow (Constant t) = Branch t
 
--- how an instruction leads on: an undefined word, a jump or call through a register and RTI lead nowhere
+-- a call of a constant address enters it; through a register it leads nowhere
+abbrev pub call-flow : Operand → Flow
+call-flow (Register y) = Nowhere
+call-flow (Constant t) = Calls t
+
+-- how a word leads on: an undefined one and RTI lead nowhere
 abbrev pub flow-of : Option Instruction → Flow
 flow-of None = Nowhere
 flow-of (Some (Alu op x o)) = Next
 flow-of (Some (Move x o)) = Next
 flow-of (Some (Load x o)) = Next
 flow-of (Some (Store x o)) = Next
-flow-of (Some (Jump c (Register y))) = Nowhere
-flow-of (Some (Jump c (Constant k))) = jump-flow c k
-flow-of (Some (Call (Register y))) = Nowhere
-flow-of (Some (Call (Constant k))) = Calls k
+flow-of (Some (Jump c o)) = jump-flow c o
+flow-of (Some (Call o)) = call-flow o
 flow-of (Some Return) = Returns
 flow-of (Some ReturnFromInterrupt) = Nowhere
 flow-of (Some DisableInterrupts) = Next

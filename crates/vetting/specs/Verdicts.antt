@@ -10,7 +10,7 @@ use Rattle.std.specs.declared.result.Result.{Result}
 use Rattle.std.specs.declared.result.Result.the-variants.{Ok, Err}
 use Rattle.refusal.specs.declared.refusal.Refusal.{Refusal}
 use Rattle.refusal.specs.declared.refusal.Refusal.the-variants.{ImageSize, SheetEnd, SheetWord, SheetRange, MainWord as main-word, MainReturn as main-return, MainRegister as main-register, HandlerWord as handler-word, HandlerReturn as handler-return, HandlerWrite as handler-write, Depth, Register, Port, Budget, BurnBuffer}
-use Rattle.refusal.specs.Refusals.{number-of}
+use Rattle.refusal.specs.Refusals.{number-of, place-of}
 use Rattle.isa.specs.declared.instruction.Instruction.{Instruction}
 use Rattle.walk.specs.Walk.{Graph, Reaches, Longest}
 use Rattle.vetting.specs.declared.rules.Rule.{Rule}
@@ -75,7 +75,7 @@ abbrev pub Too-deep : Program → Type 0
 Too-deep p =
     ((a : ℕ) × (l : List ℕ) × Reaches (graph-of p) reset a l × (stack-size < length l))
     ⊎ (Counted p × ((a : ℕ) × (l : List ℕ) × Reaches (graph-of p) reset a l ×
-        ((b : ℕ) × (m : List ℕ) × Reaches (graph-of p) vector b m × (stack-size < length l + 1 + length m))))
+    ((b : ℕ) × (m : List ℕ) × Reaches (graph-of p) vector b m × (stack-size < length l + 1 + length m))))
 
 -- the handler's depth and the total, whether the handler's walk counts or not
 abbrev pub Handler-depths : Program → Depths → Type 0
@@ -133,13 +133,17 @@ abbrev pub Answered : List ℕ → List ℕ → Result Depths Refusal → Type 0
 Answered image sheet (Ok d) = In-order image sheet × Accepted (program-of image sheet) d
 Answered image sheet (Err r) = Refused image sheet r
 
--- two answers agree: the same depths, or the same number
+-- the number is one of those whose place is free: 5 to 10
+abbrev pub Free : ℕ → Type 0
+Free n = (5 ≤ n) × (n ≤ 10)
+
+-- two answers agree: the same depths, or the same number and, but for 5 to 10, the same place
 abbrev pub Agree : Result Depths Refusal → Result Depths Refusal → Type 0
 Agree (Ok d) (Ok e) = d ≡ e
 Agree (Ok d) (Err s) = ⊥
 Agree (Err r) (Ok e) = ⊥
-Agree (Err r) (Err s) = number-of r ≡ number-of s
+Agree (Err r) (Err s) = (number-of r ≡ number-of s) × ((place-of r ≡ place-of s) ⊎ Free (number-of r))
 
--- whatever else would answer agrees: only the address beside 5 to 10 is free
+-- whatever else would answer agrees
 abbrev pub No-other : List ℕ → List ℕ → Result Depths Refusal → Type 0
 No-other image sheet r = (other : Result Depths Refusal) → Answered image sheet other → Agree r other

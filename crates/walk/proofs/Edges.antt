@@ -60,11 +60,12 @@ module _ (flows : List Flow) (r : AddressSet) (deep : Bool) (exact : (a : ℕ) �
   -- a closure from a set that holds what `from` says holds what the steps come to from there
   pub closed : (s t : AddressSet) (from : ℕ → Type 0) → Closure (Edge flows r deep) s t → ((a : ℕ) → Has s a ↔ from a) →
       (a : ℕ) → Has t a ↔ Spread (Step (graph flows) deep) from a
-  closed s t from c same a =
-      ( λ h. spreads (Spread (Step (graph flows) deep) from) (λ a k. Spread.given (same a .0 k))
-          (λ a b v e. Spread.on v (edge-step a b e)) (c .just a h)
-      , λ v. c .all a (spreads (Spread (Edge flows r deep) (Has s)) (λ a k. Spread.given (same a .1 k))
-          (λ a b v e. Spread.on v (step-edge a b e)) v))
+  closed s t from c same a = (
+    λ h. spreads (Spread (Step (graph flows) deep) from) (λ a k. Spread.given (same a .0 k))
+        (λ a b v e. Spread.on v (edge-step a b e)) (c .just a h),
+    λ v. c .all a (spreads (Spread (Edge flows r deep) (Has s)) (λ a k. Spread.given (same a .1 k))
+        (λ a b v e. Spread.on v (step-edge a b e)) v),
+  )
 
 pub entered-same : {p : Graph} (from into : ℕ → Type 0) {t : ℕ} → ((a : ℕ) → from a → into a) → Entered p from t → Entered p into t
 entered-same from into all (Entered.entered {a = a} h e) = Entered.entered (all a h) e

@@ -72,9 +72,10 @@ module _ (p : Graph) (start : ℕ) where
   stands : {a : ℕ} {l : List ℕ} → Reaches p start a l → Stands a l
   stands Reaches.begin = Spread.given refl
   stands (Reaches.on {l = l} w (Leads.goes g)) = stays l (Step.along g) (Returning.later g) (stands w)
-  stands (Reaches.on {a = a} {l = l} w (Leads.calls e)) =
-      ( Spread.given (Entered.entered (level-of a l (stands w)) e)
-      , λ x. stays l (Step.over e x) (Returning.behind e x) (stands w))
+  stands (Reaches.on {a = a} {l = l} w (Leads.calls e)) = (
+    Spread.given (Entered.entered (level-of a l (stands w)) e),
+    λ x. stays l (Step.over e x) (Returning.behind e x) (stands w),
+  )
   stands (Reaches.on w (Leads.returns e)) = stands w .1 (Returning.here e)
 
   pub levels : {a : ℕ} {l : List ℕ} → Reaches p start a l → Level p start (length l) a
@@ -90,12 +91,13 @@ module _ (p : Graph) (start : ℕ) where
 
   pub deepest : (d limit : ℕ) → d ≤ limit → (a : ℕ) → Base p start d a → ((b : ℕ) → Base p start (suc d) b → ⊥) → Deepest p start limit (Some d)
   deepest d limit le a v none =
-      let w = reached d (Spread.given v) in
-      ( le
-      , record {
+      let w = reached d (Spread.given v) in (
+        le,
+        record {
           found = (a, w .0, w .2, w .1);
           most = λ b l r. let o = origin (levels r) in none-deeper d none (length l) (o .0) (o .1);
-        })
+        },
+      )
 
   pub beyond : (d limit : ℕ) → d ≡ limit → (a : ℕ) → Base p start (suc d) a → Deepest p start limit None
   beyond d limit e a v = let w = reached (suc d) (Spread.given v) in (a, w .0, w .2, omega (arith, w .1))

@@ -29,9 +29,9 @@ module _ (p : Graph) (from : ℕ → Type 0) (i : ℕ) (t : AddressSet) (inv : G
   gathered-skip here = record {
     just = inv .just;
     all = λ a b lt h e. elim (cases-eq a i) [
-        inl q ↦ here b (rw q at h) (rw q at e)
+      | inl q ↦ here b (rw q at h) (rw q at e)
       | inr ne ↦ inv .all a b (omega arith) h e
-      ];
+    ];
     within = inv .within;
   }
 
@@ -39,9 +39,9 @@ module _ (p : Graph) (from : ℕ → Type 0) (i : ℕ) (t : AddressSet) (inv : G
   gathered-add b u n h e ins = record {
     just = λ d k. elim (ins .only d k) [ inl q ↦ rw q (Entered.entered h e) | inr k ↦ inv .just d k ];
     all = λ a d lt k f. elim (cases-eq a i) [
-        inl q ↦ let same : d ≡ b = target (rw q at f) in rw same (ins .holds)
+      | inl q ↦ let same : d ≡ b = target (rw q at f) in rw same (ins .holds)
       | inr ne ↦ ins .grows .keeps d (inv .all a d (omega arith) k f)
-      ];
+    ];
     within = ins .grows .within (inv .within);
   }
     where
@@ -55,10 +55,10 @@ gathered-all flows from n t long g b = (g .just b, all)
     all : {b : ℕ} → Entered (graph flows) from b → Has t b
     all {b} (Entered.entered {a = a} h e) =
         elim (cases-lt a n) [
-          inl lt ↦ g .all a b lt h e
-        | inr ge ↦
-            let q : graph flows a ≡ Nowhere = getD-past flows a Nowhere (omega arith) in
-            absurd (let z : _≡_ {A = ℕ} 0 1 = cc in omega arith)
+          | inl lt ↦ g .all a b lt h e
+          | inr ge ↦
+              let q : graph flows a ≡ Nowhere = getD-past flows a Nowhere (omega arith) in
+              absurd (let z : _≡_ {A = ℕ} 0 1 = cc in omega arith)
         ]
 
 -- from where the frames of a level begin to where those of the next do
@@ -67,9 +67,10 @@ pub next-level : (flows : List Flow) (r : AddressSet) (start d : ℕ) (s t e : A
     Closure (Edge flows r false) s t → ((b : ℕ) → Has e b ↔ Entered (graph flows) (Has t) b) →
     (b : ℕ) → Has e b ↔ Base (graph flows) start (suc d) b
 next-level flows r start d s t e exact base c ent b =
-    let same = closed flows r false exact s t (Base (graph flows) start d) c base in
-    ( λ h. entered-same (Has t) (Level (graph flows) start d) (λ a. same a .0) (ent b .0 h)
-    , λ v. ent b .1 (entered-same (Level (graph flows) start d) (Has t) (λ a. same a .1) v))
+    let same = closed flows r false exact s t (Base (graph flows) start d) c base in (
+      λ h. entered-same (Has t) (Level (graph flows) start d) (λ a. same a .0) (ent b .0 h),
+      λ v. ent b .1 (entered-same (Level (graph flows) start d) (Has t) (λ a. same a .1) v),
+    )
 
 -- a set into which the start alone was put
 pub alone : (s t : AddressSet) (start : ℕ) (n : Bool) → ((a : ℕ) → Has s a → ⊥) → Inserted s start t n → (a : ℕ) → Has t a ↔ (a ≡ start)

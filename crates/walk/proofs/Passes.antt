@@ -24,9 +24,9 @@ pub added : (s t u : AddressSet) (o : Onward) (g n : Bool) → Extended s (o .fi
 added s t u o g n x y = record {
   holds = λ a to. elim to [ inl e ↦ y .grows .keeps a (x .holds a e) | inr e ↦ y .holds a e ];
   only = λ a h. elim (y .only a h) [
-      inl e ↦ inl (inr e)
+    | inl e ↦ inl (inr e)
     | inr k ↦ elim (x .only a k) [ inl e ↦ inl (inl e) | inr k ↦ inr k ]
-    ];
+  ];
   grows = grown-both s t u g n (x .grows) (y .grows);
 }
 
@@ -43,9 +43,9 @@ module _ (step : ℕ → ℕ → Type 0) (s : AddressSet) where
   passed-more i t g inv here = record {
     just = inv .just;
     closed = λ e a b lt h st. elim (cases-eq a i) [
-        inl q ↦ here e b (rw q at h) (rw q at st)
+      | inl q ↦ here e b (rw q at h) (rw q at st)
       | inr ne ↦ inv .closed e a b (omega arith) h st
-      ];
+    ];
     grows = inv .grows;
   }
 
@@ -58,10 +58,10 @@ module _ (step : ℕ → ℕ → Type 0) (s : AddressSet) where
   passed-add i t u o g n inv h add to from =
       let grows = grown-both s t u g n (inv .grows) (add .grows) in
       let both : Passed step i s u (g || n) = record {
-          just = λ a k. elim (add .only a k) [ inl l ↦ Spread.on (inv .just i h) (from a l) | inr k ↦ inv .just a k ];
-          closed = λ e. inv .closed (neither g n e);
-          grows = grows;
-        } in
+        just = λ a k. elim (add .only a k) [ inl l ↦ Spread.on (inv .just i h) (from a l) | inr k ↦ inv .just a k ];
+        closed = λ e. inv .closed (neither g n e);
+        grows = grows;
+      } in
       passed-more i u (g || n) both (λ e b hs st. rw (grows .same e) at (add .holds b (to b st)))
 
   pub towards-none : Towards step s s
@@ -82,7 +82,7 @@ module _ (step : ℕ → ℕ → Type 0) (s : AddressSet) where
         just = end .just;
         within = end .within;
         all = λ a. spreads (Has u) (end .keeps)
-          (λ a b h st. rw (pass .grows .same refl) (pass .closed refl a b (small a b st) (rw (pass .grows .same refl) at h) st));
+            (λ a b h st. rw (pass .grows .same refl) (pass .closed refl a b (small a b st) (rw (pass .grows .same refl) at h) st));
       }
 
 nowhere : (r : AddressSet) (deep : Bool) (a b : ℕ) → To (onward-of r deep a Nowhere) b → ⊥
@@ -93,8 +93,8 @@ nowhere r deep a b (inr e) = let z : _≡_ {A = ℕ} 0 1 = cc in omega arith
 pub edge-below : (flows : List Flow) (r : AddressSet) (deep : Bool) (n a b : ℕ) → length flows ≡ n → Edge flows r deep a b → a < n
 edge-below flows r deep n a b e st =
     elim (cases-lt a n) [
-      inl lt ↦ lt
-    | inr ge ↦
-        let p : graph flows a ≡ Nowhere = getD-past flows a Nowhere (omega arith) in
-        absurd (nowhere r deep a b (rw p at st))
+      | inl lt ↦ lt
+      | inr ge ↦
+          let p : graph flows a ≡ Nowhere = getD-past flows a Nowhere (omega arith) in
+          absurd (nowhere r deep a b (rw p at st))
     ]

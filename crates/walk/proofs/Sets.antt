@@ -27,15 +27,15 @@ module _ (s : AddressSet) (at : ℕ) (small : at < 256) (long : length (s .membe
   keeps : (a : ℕ) → Has s a → Has grown-to a
   keeps a h =
       elim (cases-eq a at) [
-        inl e ↦ rw e (getD-set-same (s .members) at true false fits)
-      | inr ne ↦ rw (getD-set-other (s .members) at a true false ne) h
+        | inl e ↦ rw e (getD-set-same (s .members) at true false fits)
+        | inr ne ↦ rw (getD-set-other (s .members) at a true false ne) h
       ]
 
   only : (a : ℕ) → Has grown-to a → (a ≡ at) ⊎ Has s a
   only a h =
       elim (cases-eq a at) [
-        inl e ↦ inl e
-      | inr ne ↦ inr (rw (getD-set-other (s .members) at a true false ne) at h)
+        | inl e ↦ inl e
+        | inr ne ↦ inr (rw (getD-set-other (s .members) at a true false ne) at h)
       ]
 
   pub inserted : Inserted s at grown-to (not (has s at))
@@ -47,12 +47,12 @@ module _ (s : AddressSet) (at : ℕ) (small : at < 256) (long : length (s .membe
       keeps = keeps;
       within = λ w a h. elim (only a h) [ inl e ↦ rw e small | inr k ↦ w a k ];
       same = λ e.
-        let h : has s at ≡ true = not-false (has s at) e in
-        let u : set (s .members) at true ≡ s .members = rw h at (set-getD (s .members) at false) in
-        ap (λ (m : List Bool). let t : AddressSet = record { members = m } in t) u;
+          let h : has s at ≡ true = not-false (has s at) e in
+          let u : set (s .members) at true ≡ s .members = rw h at (set-getD (s .members) at false) in
+          ap (λ (m : List Bool). let t : AddressSet = record { members = m } in t) u;
       fewer = λ e.
-        let n = sumBy-set (λ b. cond (not b) 1 0) (s .members) at true false fits in
-        omega (arith, rw e at n);
+          let n = sumBy-set (λ b. cond (not b) 1 0) (s .members) at true false fits in
+          omega (arith, rw e at n);
     };
   }
 
@@ -61,11 +61,11 @@ grown-none s = record { keeps = λ a h. h; within = λ w. w; same = λ e. refl; 
 
 pub grown-both : (s t u : AddressSet) (g n : Bool) → Grown s t g → Grown t u n → Grown s u (g || n)
 grown-both s t u g n x y = record {
-    keeps = λ a h. y .keeps a (x .keeps a h);
-    within = λ w. y .within (x .within w);
-    same = same g n x y;
-    fewer = fewer g n x y;
-  }
+  keeps = λ a h. y .keeps a (x .keeps a h);
+  within = λ w. y .within (x .within w);
+  same = same g n x y;
+  fewer = fewer g n x y;
+}
   where
     same : (g n : Bool) → Grown s t g → Grown t u n → (g || n) ≡ false → u ≡ s
     same true n x y e = absurd (true≢false e)

@@ -38,9 +38,9 @@ module _ (p : Graph) (s : AddressSet) where
       go Nowhere e h = absurd (false≢true h)
       go Next e h = Returning.later {b = after a} (rw e refl) (just _ h)
       go (Branch t) e h = elim (one-of (has s (after a)) (has s t) h) [
-          inl k ↦ Returning.later {b = after a} (rw e (inl refl)) (just _ k)
+        | inl k ↦ Returning.later {b = after a} (rw e (inl refl)) (just _ k)
         | inr k ↦ Returning.later {b = t} (rw e (inr refl)) (just _ k)
-        ]
+      ]
       go (Jump t) e h = Returning.later {b = t} (rw e refl) (just _ h)
       go (Call t) e h = let k = both-of (has s t) (has s (after a)) h in Returning.behind e (just _ (k .0)) (just _ (k .1))
       go Return e h = Returning.here e
@@ -49,9 +49,9 @@ module _ (p : Graph) (s : AddressSet) where
   goes-returns a b Nowhere g h = absurd g
   goes-returns a b Next g h = rw g at h
   goes-returns a b (Branch t) g h = elim g [
-      inl e ↦ let k : has s (after a) ≡ true = rw e at h in rw k
+    | inl e ↦ let k : has s (after a) ≡ true = rw e at h in rw k
     | inr e ↦ let k : has s t ≡ true = rw e at h in rw k (second-true (has s (after a)))
-    ]
+  ]
   goes-returns a b (Jump t) g h = rw g at h
   goes-returns a b (Call t) g h = absurd g
   goes-returns a b Return g h = absurd g
@@ -70,9 +70,9 @@ pub traced-none : (flows : List Flow) (s : AddressSet) → length flows ≡ 256 
 traced-none flows s long just = record {
   just = just;
   closed = λ e a ge h.
-    let k : 256 ≤ a = ge in
-    let q : graph flows a ≡ Nowhere = getD-past flows a Nowhere (omega arith) in
-    absurd (false≢true (rw q at h));
+      let k : 256 ≤ a = ge in
+      let q : graph flows a ≡ Nowhere = getD-past flows a Nowhere (omega arith) in
+      absurd (false≢true (rw q at h));
   grows = grown-none s;
 }
 
@@ -81,9 +81,9 @@ module _ (p : Graph) (s t : AddressSet) (i j : ℕ) (g : Bool) (i-is : i ≡ j +
   traced-skip out = record {
     just = inv .just;
     closed = λ e a ge h. elim (cases-eq a j) [
-        inl q ↦ absurd (false≢true (sym out ∙ rw (q, sym (inv .grows .same e)) at h))
+      | inl q ↦ absurd (false≢true (sym out ∙ rw (q, sym (inv .grows .same e)) at h))
       | inr ne ↦ inv .closed e a (omega arith) h
-      ];
+    ];
     grows = inv .grows;
   }
 
@@ -93,8 +93,8 @@ module _ (p : Graph) (s t : AddressSet) (i j : ℕ) (g : Bool) (i-is : i ≡ j +
       record {
         just = λ a k. elim (ins .only a k) [ inl q ↦ rw q (returns-just p t j (inv .just) h) | inr k ↦ inv .just a k ];
         closed = λ e a ge r. elim (cases-eq a j) [
-            inl q ↦ rw (q, sym (grows .same e)) (ins .holds)
+          | inl q ↦ rw (q, sym (grows .same e)) (ins .holds)
           | inr ne ↦ inv .closed (neither g n e) a (omega arith) r
-          ];
+        ];
         grows = grows;
       }

@@ -15,7 +15,9 @@ impl AddressSet {
     pub fn new() -> AddressSet
         ensures { λ r. ⌜ ((a : ℕ) → Has r a → ⊥) ⌝ }
     {
-        AddressSet { members: [false; 256] }
+        AddressSet {
+            members: [false; 256],
+        }
     }
 
     // Whether an address is in the set.

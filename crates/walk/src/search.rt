@@ -7,7 +7,6 @@ ghost use Rattle.walk.specs.Walk.{graph, Deepest};
 ghost use Rattle.walk.specs.Result.{Walked};
 ghost use Rattle.walk.specs.Frames.{Returning, Entered};
 ghost use Rattle.walk.specs.Passes.{onward-of, Edge, Extended, Added, Passed, Closure, returns-of, Traced};
-
 use crate::addresses::AddressSet;
 use crate::flow::Flow;
 use crate::flow::Onward;
@@ -58,14 +57,30 @@ fn onward(flow: Flow, at: u8, returning: &AddressSet, deep: bool) -> Onward
 {
     let next = at.wrapping_add(1);
     match flow {
-        Flow::Next => Onward { first: Some(next), second: None },
-        Flow::Branch(target) => Onward { first: Some(next), second: Some(target) },
-        Flow::Jump(target) => Onward { first: Some(target), second: None },
+        Flow::Next => Onward {
+            first: Some(next),
+            second: None,
+        },
+        Flow::Branch(target) => Onward {
+            first: Some(next),
+            second: Some(target),
+        },
+        Flow::Jump(target) => Onward {
+            first: Some(target),
+            second: None,
+        },
         Flow::Call(target) => Onward {
-            first: if returning.contains(target) { Some(next) } else { None },
+            first: if returning.contains(target) {
+                Some(next)
+            } else {
+                None
+            },
             second: if deep { Some(target) } else { None },
         },
-        Flow::Return | Flow::Nowhere => Onward { first: None, second: None },
+        Flow::Return | Flow::Nowhere => Onward {
+            first: None,
+            second: None,
+        },
     }
 }
 

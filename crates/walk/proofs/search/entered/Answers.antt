@@ -11,11 +11,11 @@ loop-i-holds c = gathered-none _ _ _ (c .new-set .ensures)
 pub loop-i-again : need.loop-i-again
 loop-i-again c =
     elim (c .if-contains .came) [
-      then-contains·in-Call w ↦
-        rw (w .set-is) (gathered-add _ _ _ _ (c .loop-i .inv) _ _ _ (sym (w .if-contains .ensures tt)) (w .in-Call .is) (w .insert-new .ensures))
-    | then-contains·in-rest w ↦ rw (w .set-is) (gathered-skip _ _ _ _ (c .loop-i .inv) (λ b h e. absurd (w .in-rest .not-Call b e)))
-    | else-contains w ↦
-        rw (w .set-is) (gathered-skip _ _ _ _ (c .loop-i .inv) (λ b h e. absurd (false≢true (w .if-contains .ensures tt ∙ h))))
+      | then-contains·in-Call w ↦
+          rw (w .set-is) (gathered-add _ _ _ _ (c .loop-i .inv) _ _ _ (sym (w .if-contains .ensures tt)) (w .in-Call .is) (w .insert-new .ensures))
+      | then-contains·in-rest w ↦ rw (w .set-is) (gathered-skip _ _ _ _ (c .loop-i .inv) (λ b h e. absurd (w .in-rest .not-Call b e)))
+      | else-contains w ↦
+          rw (w .set-is) (gathered-skip _ _ _ _ (c .loop-i .inv) (λ b h e. absurd (false≢true (w .if-contains .ensures tt ∙ h))))
     ]
 
 pub returns : need.returns

@@ -19,8 +19,9 @@ returns c =
     record {
       empty = λ a. (λ h. empty-reached p start (empty a .0 h), λ w. empty a .1 (levels p start w));
       filled = λ a. (λ h. filled-reached p start (filled a .0 h), λ w. filled a .1 (reached-filled p start (w .2)));
-      within =
-        ( c .close .ensures .within (c .insert-new .ensures .grows .within (λ a h. absurd (c .new-empty .ensures a h)))
-        , c .close-2 .ensures .within (c .entered-filled .ensures .within));
+      within = (
+        c .close .ensures .within (c .insert-new .ensures .grows .within (λ a h. absurd (c .new-empty .ensures a h))),
+        c .close-2 .ensures .within (c .entered-filled .ensures .within),
+      );
       depth = c .depth .ensures;
     }

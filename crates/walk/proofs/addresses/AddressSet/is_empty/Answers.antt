@@ -10,9 +10,9 @@ use Rattle.walk.proofs.addresses.AddressSet.is_empty.Needs as need
 pub returns : need.returns
 returns c = record {
   yes = λ e a h.
-    elim (cases-lt a (c .loop-member .member-index)) [
-      inl lt ↦ c .loop-member .inv a lt h
-    | inr ge ↦ false≢true (sym (getD-past (c .args .self .now .members) a false (omega arith)) ∙ h)
-    ];
+      elim (cases-lt a (c .loop-member .member-index)) [
+        | inl lt ↦ c .loop-member .inv a lt h
+        | inr ge ↦ false≢true (sym (getD-past (c .args .self .now .members) a false (omega arith)) ∙ h)
+      ];
   not = λ e. absurd (true≢false e);
 }

@@ -10,6 +10,6 @@ use Rattle.walk.proofs.addresses.AddressSet.new.Needs as need
 pub returns : need.returns
 returns c a h =
     elim (cases-lt a 256) [
-      inl lt ↦ false≢true (sym (getD-replicate 256 a false false lt) ∙ h)
-    | inr ge ↦ false≢true (sym (getD-past (replicate 256 false) a false ge) ∙ h)
+      | inl lt ↦ false≢true (sym (getD-replicate 256 a false false lt) ∙ h)
+      | inr ge ↦ false≢true (sym (getD-past (replicate 256 false) a false ge) ∙ h)
     ]
