@@ -17,7 +17,7 @@ use Rattle.vetting.specs.declared.depths.Depths.{Depths}
 use Rattle.vetting.specs.declared.rules.Rule.{Rule}
 use Rattle.vetting.specs.declared.rules.Rule.the-variants.{MainWord, MainReturn, MainRegister, HandlerWord, HandlerReturn, HandlerWrite}
 use Rattle.vetting.specs.declared.sheet.Sheet.{Sheet}
-use Rattle.vetting.specs.Sheets.{Ended, Fine, Fine-below, First-bad, First-improper, First-turned, Read-from, proper, turned}
+use Rattle.vetting.specs.Sheets.{Ended, Fine, Fine-below, First-bad, First-improper, First-turned, Read-from, Sheet-refused, proper, turned}
 use Rattle.vetting.specs.Programs.{Program, graph-of}
 use Rattle.vetting.specs.Verdicts.{Counted, Broken, Too-deep, Accepted, Handler-depths, First-broken, In-order, Refused, Answered, Free, Agree, program-of, rule-number, image-size, stack-size, reset, vector}
 use Rattle.vetting.specs.Judging.{read-program, Program-refused, Program-answered}
@@ -219,3 +219,21 @@ module _ (image sheet : List ℕ) where
   answered s o read r x =
       let same : read-program image s ≡ p = λ i. record { image = image; ranges = fun-ext (read .ranges) i; handlers = fun-ext (read .handlers) i } in
       from-program o r (subst (λ (q : Program). Program-answered q r) same x)
+
+  -- a sheet that is refused is refused with any image that has its size
+  pub refused : length image ≡ image-size → (r : Refusal) → Sheet-refused sheet r → Refused image sheet r
+  refused long ImageSize x = absurd x
+  refused long SheetEnd x = (long, x)
+  refused long (SheetWord i) x = (long, x)
+  refused long (SheetRange i) x = (long, x)
+  refused long (main-word a) x = absurd x
+  refused long (main-return a) x = absurd x
+  refused long (main-register a) x = absurd x
+  refused long (handler-word a) x = absurd x
+  refused long (handler-return a) x = absurd x
+  refused long (handler-write a) x = absurd x
+  refused long Depth x = absurd x
+  refused long Register x = absurd x
+  refused long Port x = absurd x
+  refused long Budget x = absurd x
+  refused long BurnBuffer x = absurd x
