@@ -1,10 +1,13 @@
 // The instructions of the MiniRISC processor: their words and their text.
+mod assembly;
 mod decoding;
 mod encoding;
 mod instruction;
 mod laws;
 mod register;
 
+pub use assembly::InstructionDisplay;
+pub use assembly::RegisterNameDisplay;
 pub use decoding::decode;
 pub use encoding::encode;
 pub use instruction::AluOperation;
