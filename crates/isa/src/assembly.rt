@@ -72,8 +72,7 @@ pub impl fmt::Display for RegisterName as RegisterNameDisplay {
     ghost shown = { λ x. Some (register-text x) };
 
     fn fmt<W: fmt::Write>(&self, f: &mut fmt::Formatter<W>) -> fmt::Result {
-        let number = self.number();
-        write!(f, "r{number}")
+        write!(f, "r{}", self.number())
     }
 }
 
@@ -83,10 +82,7 @@ impl fmt::Display for Value as ValueDisplay {
     fn fmt<W: fmt::Write>(&self, f: &mut fmt::Formatter<W>) -> fmt::Result {
         match self.0 {
             Operand::Register(y) => write!(f, "{y}"),
-            Operand::Constant(k) => {
-                let digits = HexByte(k);
-                write!(f, "#0x{digits}")
-            }
+            Operand::Constant(k) => write!(f, "#0x{}", HexByte(k)),
         }
     }
 }
@@ -97,10 +93,7 @@ impl fmt::Display for Address as AddressDisplay {
     fn fmt<W: fmt::Write>(&self, f: &mut fmt::Formatter<W>) -> fmt::Result {
         match self.0 {
             Operand::Register(y) => write!(f, "({y})"),
-            Operand::Constant(k) => {
-                let digits = HexByte(k);
-                write!(f, "0x{digits}")
-            }
+            Operand::Constant(k) => write!(f, "0x{}", HexByte(k)),
         }
     }
 }
@@ -111,40 +104,21 @@ pub impl fmt::Display for Instruction as InstructionDisplay {
     fn fmt<W: fmt::Write>(&self, f: &mut fmt::Formatter<W>) -> fmt::Result {
         match *self {
             Instruction::Alu(operation, x, operand) => {
-                let name = alu_mnemonic(operation);
-                let value = Value(operand);
-                write!(f, "{name} {x}, {value}")
+                write!(f, "{} {x}, {}", alu_mnemonic(operation), Value(operand))
             }
-            Instruction::Move(x, operand) => {
-                let value = Value(operand);
-                write!(f, "MOV {x}, {value}")
-            }
-            Instruction::Load(x, operand) => {
-                let address = Address(operand);
-                write!(f, "MOV {x}, {address}")
-            }
-            Instruction::Store(x, operand) => {
-                let address = Address(operand);
-                write!(f, "MOV {address}, {x}")
-            }
+            Instruction::Move(x, operand) => write!(f, "MOV {x}, {}", Value(operand)),
+            Instruction::Load(x, operand) => write!(f, "MOV {x}, {}", Address(operand)),
+            Instruction::Store(x, operand) => write!(f, "MOV {}, {x}", Address(operand)),
             Instruction::Jump(condition, operand) => {
-                let name = jump_mnemonic(condition);
-                let address = Address(operand);
-                write!(f, "{name} {address}")
+                write!(f, "{} {}", jump_mnemonic(condition), Address(operand))
             }
-            Instruction::Call(operand) => {
-                let address = Address(operand);
-                write!(f, "JSR {address}")
-            }
+            Instruction::Call(operand) => write!(f, "JSR {}", Address(operand)),
             Instruction::Return => write!(f, "RTS"),
             Instruction::ReturnFromInterrupt => write!(f, "RTI"),
             Instruction::DisableInterrupts => write!(f, "CLI"),
             Instruction::EnableInterrupts => write!(f, "STI"),
             Instruction::Swap(x) => write!(f, "SWP {x}"),
-            Instruction::Shift(operation, x) => {
-                let name = shift_mnemonic(operation);
-                write!(f, "{name} {x}")
-            }
+            Instruction::Shift(operation, x) => write!(f, "{} {x}", shift_mnemonic(operation)),
         }
     }
 }

@@ -5,6 +5,8 @@ mod encoding;
 mod instruction;
 mod laws;
 mod register;
+#[cfg(test)]
+mod tests;
 
 pub use assembly::InstructionDisplay;
 pub use assembly::RegisterNameDisplay;
