@@ -1,10 +1,15 @@
 // The instructions of the MiniRISC processor: their words and their text.
+mod assembly;
 mod decoding;
 mod encoding;
 mod instruction;
 mod laws;
 mod register;
+#[cfg(test)]
+mod tests;
 
+pub use assembly::InstructionDisplay;
+pub use assembly::RegisterNameDisplay;
 pub use decoding::decode;
 pub use encoding::encode;
 pub use instruction::AluOperation;
