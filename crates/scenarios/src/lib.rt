@@ -1,0 +1,3 @@
+// Images and sheets, vetted and compared with the answers that the rules give.
+#[cfg(test)]
+mod tests;
