@@ -14,7 +14,7 @@ use Rattle.std.specs.Vec.{made}
 use Rattle.std.specs.declared.result.Result.{Result}
 use Rattle.std.specs.declared.result.Result.the-variants.{Ok, Err}
 use Rattle.hex.specs.Hexadecimal.{digit-of}
-use Rattle.files.specs.Words.{shown-byte, shown-token}
+use Rattle.files.specs.Wording.{shown-byte, shown-token}
 
 -- a byte that is not printed is shown by its number
 pub shown-number : (bs : List ℕ) (b high low : ℕ) → leb 0x20 b && leb b 0x7E ≡ false → high ≡ digit-of (b / 0x10 % 0x10) → low ≡ digit-of (b % 0x10) → ((bs ++ codes "\\x") ++ (high ∷ [])) ++ (low ∷ []) ≡ bs ++ shown-byte b

@@ -42,9 +42,13 @@ pub record Token : Type 0 where
   pub line : ℕ
   pub bytes : List ℕ
 
+-- the token with these bytes on this line
+abbrev pub token-at : ℕ → List ℕ → Token
+token-at n bs = record { line = n; bytes = bs }
+
 -- the tokens of the line with this number: what blanks part before the comment
 abbrev pub line-tokens : ℕ → List ℕ → List Token
-line-tokens n l = map (λ bs. record { line = n; bytes = bs }) (filled (pieces Blank (uncommented l)))
+line-tokens n l = map (token-at n) (filled (pieces Blank (uncommented l)))
 
 -- the tokens of lines, of which the first has this number
 abbrev pub tokens-from : ℕ → List (List ℕ) → List Token

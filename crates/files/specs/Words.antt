@@ -1,14 +1,12 @@
--- The number that a word writes, and a token as a message shows it.
-use mathlib.Core.Bool.{cond, _&&_}
-use mathlib.Core.List.{List, [], _∷_, _++_}
+-- The number that a word writes.
+use mathlib.Core.Bool.{cond}
+use mathlib.Core.List.{List, [], _∷_}
 use Prim.Native.Nat.{ℕ, _+_, _*_}
-use lib.Chars.{codes}
-use lib.Dec.{eqb, leb, ltb}
-use lib.ListN.{length, take}
-use Rattle.std.specs.Joined.{joined}
+use lib.Dec.{eqb}
+use lib.ListN.{length}
 use Rattle.std.specs.declared.option.Option.{Option}
 use Rattle.std.specs.declared.option.Option.the-variants.{Some, None}
-use Rattle.hex.specs.Hexadecimal.{value-of, two-digits}
+use Rattle.hex.specs.Hexadecimal.{value-of}
 use Rattle.files.specs.declared.fault.Digits.{Digits}
 use Rattle.files.specs.declared.fault.Digits.the-variants.{Four, Eight}
 
@@ -25,11 +23,3 @@ number-on n (c ∷ cs) = elim (value-of c) [ Some d ↦ number-on (n * 16 + d) c
 -- the number of a word of so many digits; none where the bytes are no such word
 abbrev pub word-of : Digits → List ℕ → Option ℕ
 word-of digits bs = cond (eqb (length bs) (digit-count digits)) (number-on 0 bs) None
-
--- a byte in a message: itself from ' ' to '~', else \x and two digits
-abbrev pub shown-byte : ℕ → List ℕ
-shown-byte b = cond (leb 0x20 b && leb b 0x7E) (b ∷ []) (codes "\\x" ++ two-digits b)
-
--- a token in a message: its first 24 bytes, and dots where there are more
-abbrev pub shown-token : List ℕ → List ℕ
-shown-token bs = joined shown-byte (take 24 bs) ++ cond (ltb 24 (length bs)) (codes "...") []

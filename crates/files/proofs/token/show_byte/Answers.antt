@@ -9,7 +9,7 @@ use lib.Dec.{leb}
 use Rattle.std.proofs.shelf.Parts.{pushed}
 use Rattle.std.proofs.shelf.Ways.{tells}
 use Rattle.std.specs.Of.String.{string-bytes}
-use Rattle.files.specs.Words.{shown-byte}
+use Rattle.files.specs.Wording.{shown-byte}
 use Rattle.files.proofs.Messages.{shown-number, made-pushed}
 use Rattle.files.proofs.token.show_byte.Needs as need
 use Rattle.files.proofs.token.show_byte.Needs.{else-byte-ge32·by·then-byte-ge32·else-byte-le126, else-byte-ge32·by·else-byte-ge32}

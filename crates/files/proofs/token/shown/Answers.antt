@@ -4,7 +4,7 @@ use Rattle.std.proofs.shelf.Parts.{pushed}
 use Rattle.std.proofs.shelf.Results.{made-weaker}
 use Rattle.std.specs.Joined.{joined}
 use Rattle.std.specs.Of.String.{string-bytes}
-use Rattle.files.specs.Words.{shown-byte, shown-token}
+use Rattle.files.specs.Wording.{shown-byte, shown-token}
 use Rattle.files.proofs.Messages.{shown-short, shown-long}
 use Rattle.files.proofs.token.shown.Needs as need
 
