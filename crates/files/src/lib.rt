@@ -15,3 +15,6 @@ pub use formats::image_text;
 pub use formats::sheet_text;
 pub use message::DigitsDisplay;
 pub use message::FaultDisplay;
+
+#[cfg(test)]
+mod tests;

@@ -16,7 +16,7 @@ use std::alloc::AllocError;
 use std::alloc::Global;
 
 impl Digits {
-    pub fn count(self) -> usize
+    fn count(self) -> usize
         ensures { λ r. ⌜ r ≡ digit-count self ⌝ }
     {
         match self {
