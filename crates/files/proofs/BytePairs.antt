@@ -1,34 +1,26 @@
 -- Words of two bytes, pair by pair.
-use mathlib.Core.Path.{_≡_, refl, sym, ap, subst, _∙_}
+use mathlib.Core.Path.{_≡_, refl, sym, ap, _∙_}
 use mathlib.Core.List.{List, [], _∷_, _++_, append-assoc, append-nil}
 use Prim.Native.Nat.{ℕ, _+_, _*_, _/_, _%_, _<_}
 use native.Mathlib.Omega.{arith}
 use lib.ListN.{length, getD, length-append}
-use Rattle.std.proofs.shelf.Lists.{getD-append-add, joined-more}
+use Rattle.std.proofs.shelf.Lists.{joined-more}
 use Rattle.std.specs.Joined.{joined}
 use Rattle.files.specs.Formats.{big-endian}
 
-pair-back : (h l w : ℕ) → l < 256 → w ≡ h * 256 + l → big-endian w ≡ h ∷ l ∷ []
-pair-back h l w small is =
-    let high : w / 0x100 ≡ h = omega arith in
-    let low : w % 0x100 ≡ l = omega arith in
-    cc
-
 -- one word more
-pub pairs-more : (bs ws vs pair rest next : List ℕ) (w : ℕ) → ((i : ℕ) → getD bs i 0 < 256) → joined big-endian ws ++ rest ≡ bs → rest ≡ pair ++ next → length pair ≡ 2 → w ≡ getD pair 0 0 * 256 + getD pair 1 0 → vs ≡ ws ++ w ∷ [] → joined big-endian vs ++ next ≡ bs
-pairs-more bs ws vs [] rest next w small before cut two is push = absurd (omega arith)
-pairs-more bs ws vs (h ∷ []) rest next w small before cut two is push = absurd (omega arith)
-pairs-more bs ws vs (h ∷ l ∷ x ∷ xs) rest next w small before cut two is push = absurd (omega arith)
-pairs-more bs ws vs (h ∷ l ∷ []) rest next w small before cut two is push =
+pub pairs-more : (bs ws vs pair rest next : List ℕ) (w : ℕ) → joined big-endian ws ++ rest ≡ bs → rest ≡ pair ++ next → length pair ≡ 2 → big-endian w ≡ getD pair 0 0 ∷ getD pair 1 0 ∷ [] → vs ≡ ws ++ w ∷ [] → joined big-endian vs ++ next ≡ bs
+pairs-more bs ws vs [] rest next w before cut two is push = absurd (omega arith)
+pairs-more bs ws vs (h ∷ []) rest next w before cut two is push = absurd (omega arith)
+pairs-more bs ws vs (h ∷ l ∷ x ∷ xs) rest next w before cut two is push = absurd (omega arith)
+pairs-more bs ws vs (h ∷ l ∷ []) rest next w before cut two is push =
     let front = joined big-endian ws in
-    let all : front ++ (h ∷ l ∷ next) ≡ bs = ap (λ r. front ++ r) (sym cut) ∙ before in
-    let low : getD bs (length front + 1) 0 ≡ l = ap (λ b. getD b (length front + 1) 0) (sym all) ∙ getD-append-add front (h ∷ l ∷ next) 1 0 in
-    let word : big-endian w ≡ h ∷ l ∷ [] = pair-back h l w (omega (arith, small (length front + 1))) is in
     ap (λ v. joined big-endian v ++ next) push ∙
     ap (λ b. b ++ next) (sym (joined-more big-endian [] ws w)) ∙
     append-assoc front (big-endian w) next ∙
-    ap (λ p. front ++ (p ++ next)) word ∙
-    all
+    ap (λ p. front ++ (p ++ next)) is ∙
+    ap (λ r. front ++ r) (sym cut) ∙
+    before
 
 even : (ws : List ℕ) → length (joined big-endian ws) ≡ 2 * length ws
 even [] = omega arith

@@ -1,5 +1,6 @@
 // The formats of an image and a sheet.
 ghost use mathlib.Core.Path.{_≡_};
+ghost use mathlib.Core.List.{[], _∷_};
 ghost use Prim.Native.Nat.{_^_};
 ghost use Rattle.hex.specs.Hexadecimal.{four-digits};
 ghost use Rattle.files.specs.Formats.{eight-digits, line-of, big-endian, Joins, Read-back};
@@ -30,6 +31,13 @@ pub fn sheet_text(heap: Global, text: &[u8]) -> Result<Vec<u32>, Fault>
     read(heap, text)
 }
 
+// The word of two bytes.
+fn word(high: u8, low: u8) -> u16
+    ensures { λ r. ⌜ big-endian r ≡ high ∷ low ∷ [] ⌝ }
+{
+    u16::from_be_bytes([high, low])
+}
+
 // An image as binary: words of two bytes, high byte first.
 pub fn image_binary(heap: Global, bytes: &[u8]) -> Result<Vec<u16>, Fault>
     ensures joins { λ r. ⌜ Joins (now (bytes .entry)) r ⌝ }
@@ -40,7 +48,7 @@ pub fn image_binary(heap: Global, bytes: &[u8]) -> Result<Vec<u16>, Fault>
     }
     let mut words = Vec::new(heap);
     for pair in bytes.chunks_exact(2) {
-        words.push(u16::from_be_bytes([pair[0], pair[1]]))?;
+        words.push(word(pair[0], pair[1]))?;
     }
     Ok(words)
 }

@@ -8,12 +8,10 @@ mod token;
 
 pub use fault::Digits;
 pub use fault::Fault;
-pub use fault::FaultFromAlloc;
-pub use fault::FaultFromRefused;
+pub use fault::FaultDebug;
 pub use formats::image_binary;
 pub use formats::image_text;
 pub use formats::sheet_text;
-pub use message::DigitsDisplay;
 pub use message::FaultDisplay;
 
 #[cfg(test)]

@@ -5,7 +5,7 @@ use crate::fault::Digits;
 use crate::fault::Fault;
 use std::fmt;
 
-pub impl fmt::Display for Digits as DigitsDisplay {
+impl fmt::Display for Digits as DigitsDisplay {
     ghost shown = { λ d. Some (digits-name d) };
 
     fn fmt<W: fmt::Write>(&self, f: &mut fmt::Formatter<W>) -> fmt::Result {

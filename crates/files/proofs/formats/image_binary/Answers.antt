@@ -1,7 +1,6 @@
 -- Pair by pair.
-use mathlib.Core.Path.{_≡_, refl, sym, _∙_}
+use mathlib.Core.Path.{refl, _∙_}
 use native.Mathlib.Omega.{arith}
-use borrow.Author.Needs.{needs}
 use Rattle.std.proofs.shelf.Results.{err-from-errBy}
 use Rattle.files.proofs.BytePairs.{pairs-more, even-length, pairs-all, same-words}
 use Rattle.files.proofs.formats.image_binary.Needs as need
@@ -16,7 +15,7 @@ loop-pair-again c =
       tt,
       omega arith,
       step .0 ∙ old .2,
-      pairs-more _ _ _ (c .in-Some .pair .now) _ _ (c .from-be-bytes .result) (λ i. omega (arith, c .typed .bytes i)) (old .3) (step .1 .0) (step .1 .1 ∙ old .2) (c .from-be-bytes .ensures) (c .in-Continue-push .ensures tt .items),
+      pairs-more _ _ _ (c .in-Some .pair .now) _ _ (c .word .result) (old .3) (step .1 .0) (step .1 .1 ∙ old .2) (c .word .ensures) (c .in-Continue-push .ensures tt .items),
     )
 
 pub returns-in-Break-push : need.returns-in-Break-push
