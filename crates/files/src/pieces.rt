@@ -49,7 +49,7 @@ fn tail(text: &[u8]) -> &[u8]
 }
 
 // The pieces of a text that are yet to come.
-#[derive(Clone, Copy)]
+#[derive(Drop)]
 pub struct Pieces<'a> {
     rest: &'a [u8],
     separator: Separator,

@@ -45,9 +45,10 @@ fn read_line<W: Word>(
     ensures { λ r. ⌜ Adds (W·Word .value) (W·Word .width) (line-tokens line (now (text .entry))) (vec-items (now (words .entry))) r (vec-items (now (words .exit))) ⌝ }
 {
     for token in Pieces::new(without_comment(text), Separator::Blank) {
-        if !token.is_empty() {
-            read_token(heap, line, token, words)?;
+        if token.is_empty() {
+            continue;
         }
+        read_token(heap, line, token, words)?;
     }
     Ok(())
 }

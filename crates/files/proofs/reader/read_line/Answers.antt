@@ -15,18 +15,18 @@ loop-token-holds g c =
     ap pieces-left (c .into-iter-token-iterator .ensures .becomes) ∙ ap (λ s. pieces s rest) (c .new-token-items .ensures .separator) ∙ ap (pieces Blank) (c .new-token-items .ensures .text ∙ c .without-comment .ensures) in
     (tt, tt, rw all (start _ _ _))
 
+pub loop-token-again-then-is-empty : need.loop-token-again-then-is-empty
+loop-token-again-then-is-empty g c =
+    (tt, tt, empty-piece _ _ _ _ _ (c .loop-token .inv .2) (c .in-Some .ensures tt .steps) (true-eqb _ 0 (c .if-is-empty .ensures tt)))
+
 pub loop-token-again : need.loop-token-again
 loop-token-again g c =
-    (tt, tt, empty-piece _ _ _ _ _ (c .loop-token .inv .2) (c .in-Some .ensures tt .steps) (true-eqb _ 0 (c .if-not-is-empty .ensures tt)))
-
-pub loop-token-again-in-Continue· : need.loop-token-again-in-Continue·
-loop-token-again-in-Continue· g c =
-    (tt, tt, piece-read _ _ (c .in-Some .token .now) _ _ (c .loop-token .inv .2) (c .in-Some .ensures tt .steps) (false-eqb _ 0 (c .if-not-is-empty .ensures tt)) (c .in-Continue-read-token .ensures tt))
+    (tt, tt, piece-read _ _ (c .in-Some .token .now) _ _ (c .loop-token .inv .2) (c .in-Some .ensures tt .steps) (false-eqb _ 0 (c .if-is-empty .ensures tt)) (c .in-Continue-read-token .ensures tt))
 
 pub returns-in-Break-read-token : need.returns-in-Break-read-token
 returns-in-Break-read-token g c =
     let p = err-from-errBy (c .from-residual .result) (c .from-residual .ensures .1) in
-    rw (p .1, p .2) (piece-fault _ _ _ (c .in-Some .token .now) _ _ _ (c .loop-token .inv .2) (c .in-Some .ensures tt .steps) (false-eqb _ 0 (c .if-not-is-empty .ensures tt)) (c .in-Break-read-token .ensures tt))
+    rw (p .1, p .2) (piece-fault _ _ _ (c .in-Some .token .now) _ _ _ (c .loop-token .inv .2) (c .in-Some .ensures tt .steps) (false-eqb _ 0 (c .if-is-empty .ensures tt)) (c .in-Break-read-token .ensures tt))
 
 pub returns : need.returns
 returns g c = no-piece _ _ _ (c .loop-token .inv .2) (c .in-None .ensures tt .steps)
