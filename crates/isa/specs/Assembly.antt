@@ -1,9 +1,11 @@
 -- The text of instructions, in the assembler's form.
+use mathlib.Core.Path.{_≡_}
 use mathlib.Core.List.{List, _++_}
 use Prim.Native.Nat.{ℕ}
 use lib.Chars.{codes}
 use Rattle.std.specs.Written.{decimal}
 use Rattle.hex.specs.Hexadecimal.{two-digits}
+use Rattle.isa.specs.Laws.{Byte-sized}
 use Rattle.isa.specs.declared.register.RegisterName.{RegisterName}
 use Rattle.isa.specs.declared.instruction.Operand.{Operand}
 use Rattle.isa.specs.declared.instruction.Operand.the-variants.{Register, Constant}
@@ -88,3 +90,7 @@ text-of DisableInterrupts = codes "CLI"
 text-of EnableInterrupts = codes "STI"
 text-of (Swap x) = with-space (codes "SWP") (register-text x)
 text-of (Shift s x) = with-space (shift-mnemonic s) (register-text x)
+
+-- different instructions have different text
+abbrev pub Different-texts : Type 0
+Different-texts = (i j : Instruction) → Byte-sized i → Byte-sized j → text-of i ≡ text-of j → i ≡ j

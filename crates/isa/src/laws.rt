@@ -3,9 +3,15 @@ ghost use mathlib.Core.Path.{_≡_};
 ghost use Rattle.std.specs.declared.option.Option.the-variants.{Some, None};
 ghost use Rattle.isa.specs.Laws.{Read-back, Written-back, Defined-words};
 ghost use Rattle.isa.specs.Words.{decoded};
+ghost use Rattle.isa.specs.Assembly.{text-of, Different-texts};
+ghost use Rattle.std.specs.Of.String.{string-bytes};
+ghost use Rattle.std.specs.Vec.{made};
+use crate::assembly::InstructionDisplay;
 use crate::decoding::decode;
 use crate::encoding::encode;
 use crate::instruction::Instruction;
+use std::alloc::AllocError;
+use std::alloc::Global;
 
 // An instruction, encoded and decoded again: itself.
 pub fn reread(instruction: Instruction) -> Option<Instruction>
@@ -32,4 +38,12 @@ pub fn defined_words() -> u16
     ensures answer { λ r. ⌜ r ≡ 55108 ⌝ }
 {
     55_108
+}
+
+// The text of an instruction, which no other instruction has.
+pub fn text(heap: Global, instruction: Instruction) -> Result<String, AllocError>
+    ensures all { λ _. ⌜ Different-texts ⌝ }
+    ensures bytes { λ r. ⌜ made r (λ t. string-bytes t ≡ text-of instruction) ⌝ }
+{
+    instruction.to_string(heap)
 }

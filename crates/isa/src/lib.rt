@@ -20,4 +20,5 @@ pub use instruction::ShiftOperation;
 pub use laws::defined_words;
 pub use laws::reread;
 pub use laws::rewritten;
+pub use laws::text;
 pub use register::RegisterName;

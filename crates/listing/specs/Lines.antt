@@ -60,3 +60,15 @@ pub record Last-run (image : List ℕ) (start : ℕ) : Type 0 where
   pub inside : start < length image
   pub equal : (k : ℕ) → start ≤ k → k < length image → getD image k 0 ≡ getD image start 0
   pub longest : (k : ℕ) → k + 1 ≡ start → getD image k 0 ≢ getD image start 0
+
+-- how many lines a text has: its line feeds
+abbrev pub line-count : List ℕ → ℕ
+line-count [] = 0
+line-count (c ∷ cs) = cond (eqb c 10) (line-count cs + 1) (line-count cs)
+
+-- the text lists an image of 256 words: each address before the last run has a line, and the run has one
+pub record Lists (image text : List ℕ) : Type 0 where
+  pub size : length image ≡ 256
+  pub whole : text ≡ listing-of image
+  pub run : Last-run image (run-start image)
+  pub lines : line-count text ≡ run-start image + 1

@@ -9,7 +9,7 @@ ghost use Rattle.refusal.specs.declared.refusal.Refusal.the-variants.{ImageSize
 ghost use Rattle.listing.specs.declared.text.ListingError.the-variants.{Refused, Memory};
 ghost use Rattle.std.specs.Of.String.{string-bytes};
 ghost use Rattle.std.specs.Vec.{made};
-ghost use Rattle.listing.specs.Lines.{ended, lines-from, last-line, listing-of, Last-run};
+ghost use Rattle.listing.specs.Lines.{ended, lines-from, last-line, run-start, listing-of, Last-run, Lists};
 use crate::line::Line;
 use crate::line::LineDisplay;
 use crate::line::Run;
@@ -68,7 +68,8 @@ fn write_last(text: &mut String, start: u8, word: u16) -> fmt::Result
 // Adds the listing of an image.
 fn write_listing(text: &mut String, image: &[u16]) -> fmt::Result
     requires { ⌜ length (now image) ≡ 256 ⌝ }
-    ensures { λ r. ⌜ made r (λ _. string-bytes (now (text .exit)) ≡ string-bytes (now (text .entry)) ++ listing-of (now (image .entry))) ⌝ }
+    ensures bytes { λ r. ⌜ made r (λ _. string-bytes (now (text .exit)) ≡ string-bytes (now (text .entry)) ++ listing-of (now (image .entry))) ⌝ }
+    ensures run { λ _. ⌜ Last-run (now (image .entry)) (run-start (now (image .entry))) ⌝ }
 {
     let start = run_start(image);
     write_lines(text, &image[0..start])?;
@@ -78,7 +79,7 @@ fn write_listing(text: &mut String, image: &[u16]) -> fmt::Result
 // The listing of an image of 256 words.
 pub fn listing(heap: Global, image: &[u16]) -> Result<String, ListingError>
     ensures { λ r. ⌜ elim r [
-      | Ok text ↦ (length (now (image .entry)) ≡ 256) × (string-bytes text ≡ listing-of (now (image .entry)))
+      | Ok text ↦ Lists (now (image .entry)) (string-bytes text)
       | Err e ↦ elim e [ Refused reason ↦ (length (now (image .entry)) ≢ 256) × (reason ≡ ImageSize) | Memory ↦ length (now (image .entry)) ≡ 256 ]
     ] ⌝ }
 {

@@ -1,14 +1,15 @@
 -- The lines before the run and the line of the run make the listing.
-use mathlib.Core.Path.{_≡_, sym, ap, _∙_}
+use mathlib.Core.Path.{_≡_, sym, ap, subst, _∙_}
 use mathlib.Core.List.{List, _++_, append-assoc}
 use Prim.Native.Nat.{ℕ, _-_}
 use native.Mathlib.Nat.{sub-zero}
 use lib.ListN.{getD, take}
+use borrow.Author.Needs.{needs}
 use Rattle.std.specs.declared.result.Result.{Result}
 use Rattle.std.specs.declared.result.Result.the-variants.{Ok, Err}
 use Rattle.std.specs.Of.String.{string-bytes}
 use Rattle.std.specs.Vec.{made}
-use Rattle.listing.specs.Lines.{ended, lines-from, last-line, run-start, listing-of}
+use Rattle.listing.specs.Lines.{ended, lines-from, last-line, run-start, listing-of, Last-run}
 use Rattle.listing.proofs.Runs.{run-start-is}
 use Rattle.listing.proofs.text.write_listing.Needs as need
 
@@ -23,7 +24,17 @@ written (Err y) before between after image start place front last = tt
 
 pub returns : need.returns
 returns c =
-    written (c .write-last .result) (string-bytes (c .args .text .now)) (string-bytes (c .write-lines .last .text)) (string-bytes (c .write-last .last .text)) (c .args .image .now) (c .run-start-start .result)
-    (run-start-is _ _ (c .run-start-start .ensures))
-    (c .in-Continue-write-lines .ensures tt)
-    (c .write-last .ensures)
+    let place = run-start-is _ _ (c .run-start-start .ensures) in
+    record {
+      bytes =
+          written (c .write-last .result) (string-bytes (c .args .text .now)) (string-bytes (c .write-lines .last .text)) (string-bytes (c .write-last .last .text)) (c .args .image .now) (c .run-start-start .result) place
+          (c .in-Continue-write-lines .ensures tt)
+          (c .write-last .ensures);
+      run = subst (Last-run (c .args .image .now)) (sym place) (c .run-start-start .ensures);
+    }
+
+pub returns-in-Break-write-lines : need.returns-in-Break-write-lines
+returns-in-Break-write-lines c = record {
+  bytes = search needs;
+  run = subst (Last-run (c .args .image .now)) (sym (run-start-is _ _ (c .run-start-start .ensures))) (c .run-start-start .ensures);
+}
