@@ -1,5 +1,7 @@
 // Numbers as hexadecimal digits.
 mod digits;
+#[cfg(test)]
+mod tests;
 mod text;
 
 pub use digits::digit;

@@ -1,6 +1,6 @@
-// The number, the name and the place of each refusal, and its line of text.
+// The number, the name and the place of each refusal.
 ghost use mathlib.Core.Path.{_≡_};
-ghost use Rattle.refusal.specs.Refusals.{number-of, name-of, place-of};
+ghost use Rattle.refusal.specs.Refusals.{number-of, name-of, place-of, address-of};
 use crate::refusal::Refusal;
 
 impl Refusal {
@@ -69,6 +69,29 @@ impl Refusal {
             | Refusal::Port
             | Refusal::Budget
             | Refusal::BurnBuffer => 0,
+        }
+    }
+
+    // The address of the image that it points at, for 5 to 10.
+    pub fn address(self) -> Option<u8>
+        ensures { λ r. ⌜ r ≡ address-of self ⌝ }
+    {
+        match self {
+            Refusal::MainWord { at }
+            | Refusal::MainReturn { at }
+            | Refusal::MainRegister { at }
+            | Refusal::HandlerWord { at }
+            | Refusal::HandlerReturn { at }
+            | Refusal::HandlerWrite { at } => Some(at),
+            Refusal::ImageSize
+            | Refusal::SheetEnd
+            | Refusal::SheetWord { index: _ }
+            | Refusal::SheetRange { index: _ }
+            | Refusal::Depth
+            | Refusal::Register
+            | Refusal::Port
+            | Refusal::Budget
+            | Refusal::BurnBuffer => None,
         }
     }
 }

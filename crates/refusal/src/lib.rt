@@ -2,7 +2,11 @@
 mod describe;
 mod refusal;
 
+pub use describe::RefusalDisplay;
 pub use refusal::Refusal;
 pub use refusal::RefusalDebug;
 pub use refusal::RefusalEq;
 pub use refusal::RefusalPartialEq;
+
+#[cfg(test)]
+mod tests;
