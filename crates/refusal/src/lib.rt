@@ -1,12 +1,12 @@
-// What the toolkit refuses: a number, a name and a place for each case.
+// What the toolkit refuses: a number, a name, a place and a line of text for each case.
 mod describe;
 mod refusal;
+#[cfg(test)]
+mod tests;
+mod text;
 
-pub use describe::RefusalDisplay;
 pub use refusal::Refusal;
 pub use refusal::RefusalDebug;
 pub use refusal::RefusalEq;
 pub use refusal::RefusalPartialEq;
-
-#[cfg(test)]
-mod tests;
+pub use text::RefusalDisplay;
