@@ -5,8 +5,6 @@ mod encoding;
 mod instruction;
 mod laws;
 mod register;
-#[cfg(test)]
-mod tests;
 
 pub use assembly::InstructionDisplay;
 pub use assembly::RegisterNameDisplay;

@@ -1,3 +1,5 @@
-// Images and sheets, vetted and compared with the answers that the rules give.
+// Tests of words and of images, in a crate of their own since a crate with tests is proved twice.
 #[cfg(test)]
-mod tests;
+mod images;
+#[cfg(test)]
+mod words;

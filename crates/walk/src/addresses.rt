@@ -24,15 +24,16 @@ impl AddressSet {
     pub fn contains(&self, at: u8) -> bool
         ensures { λ r. ⌜ r ≡ has (now (self .entry)) at ⌝ }
     {
-        self.members[at as usize]
+        self.members[usize::from(at)]
     }
 
     // Puts an address in, and tells whether it was not in before.
     pub fn insert(&mut self, at: u8) -> bool
         ensures { λ r. ⌜ Inserted (now (self .entry)) at (now (self .exit)) r ⌝ }
     {
-        let grown = !self.members[at as usize];
-        self.members[at as usize] = true;
+        let place = usize::from(at);
+        let grown = !self.members[place];
+        self.members[place] = true;
         grown
     }
 

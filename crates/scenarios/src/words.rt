@@ -1,7 +1,7 @@
 // Words and their text.
-use crate::assembly::InstructionDisplay;
-use crate::decoding::decode;
-use crate::register::RegisterName;
+use isa::InstructionDisplay;
+use isa::RegisterName;
+use isa::decode;
 use refusal::Refusal;
 use std::test::*;
 
