@@ -31,7 +31,7 @@ impl AddressSet {
     pub fn insert(&mut self, at: u8) -> bool
         ensures { λ r. ⌜ Inserted (now (self .entry)) at (now (self .exit)) r ⌝ }
     {
-        let place = usize::from(at);
+        let place = at as usize;
         let grown = !self.members[place];
         self.members[place] = true;
         grown
