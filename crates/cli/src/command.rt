@@ -1,7 +1,9 @@
 // The commands, and the arguments that they take.
 ghost use mathlib.Core.Path.{_≡_};
 ghost use mathlib.Core.List.{map};
+ghost use lib.ListN.{length};
 ghost use Rattle.std.specs.Of.String.{string-bytes};
+ghost use Rattle.std.specs.Vec.{made};
 ghost use Rattle.cli.specs.Arguments.{arguments-of, Found, Asked};
 use crate::usage::Usage;
 
@@ -40,7 +42,8 @@ fn named(word: &str) -> Option<Command>
 
 // The command that the arguments ask for.
 pub fn parse(arguments: &[String]) -> Result<Command, Usage>
-    ensures { λ r. ⌜ Asked (map string-bytes (now (arguments .entry))) r ⌝ }
+    ensures asked { λ r. ⌜ Asked (map string-bytes (now (arguments .entry))) r ⌝ }
+    ensures count { λ r. ⌜ made r (λ c. length (now (arguments .entry)) ≡ arguments-of c) ⌝ }
 {
     let Some(first) = arguments.first() else {
         return Err(Usage::Unknown);

@@ -13,6 +13,7 @@ use listing::listing;
 use refusal::RefusalDisplay;
 use report::Report;
 use report::ReportDisplay;
+use std::alloc::AllocError;
 use std::env;
 use std::fs;
 use std::io;
@@ -22,9 +23,15 @@ use vetting::vet;
 #[derive(Debug, Drop)]
 struct Unsuccessful;
 
-// What could not be printed is told nowhere; the status says it.
+// What cannot be printed is told nowhere: the status says it.
 impl From<io::Error> for Unsuccessful as UnsuccessfulFromIo {
     fn from(_error: io::Error) -> Unsuccessful {
+        Unsuccessful
+    }
+}
+
+impl From<AllocError> for Unsuccessful as UnsuccessfulFromAlloc {
+    fn from(_error: AllocError) -> Unsuccessful {
         Unsuccessful
     }
 }
@@ -118,14 +125,11 @@ fn judge(rt: &LibcRuntime, image: &str, sheet: &str) -> Result<(), Unsuccessful>
     }
 }
 
-fn main(rt: LibcRuntime) -> Result<(), Unsuccessful> {
-    let mut arguments = Vec::new(rt.alloc());
-    for argument in env::args(&rt)?.skip(1) {
-        arguments.push(argument)?;
-    }
-    match parse(&arguments) {
-        Ok(Command::List) => list(&rt, arguments[1].as_str()),
-        Ok(Command::Vet) => judge(&rt, arguments[1].as_str(), arguments[2].as_str()),
+// Does what the arguments ask for.
+fn run(rt: &LibcRuntime, arguments: &[String]) -> Result<(), Unsuccessful> {
+    match parse(arguments) {
+        Ok(Command::List) => list(rt, arguments[1].as_str()),
+        Ok(Command::Vet) => judge(rt, arguments[1].as_str(), arguments[2].as_str()),
         Ok(Command::Help) => {
             print!(rt, "{HELP}")?;
             Ok(())
@@ -135,4 +139,9 @@ fn main(rt: LibcRuntime) -> Result<(), Unsuccessful> {
             Err(Unsuccessful)
         }
     }
+}
+
+fn main(rt: LibcRuntime) -> Result<(), Unsuccessful> {
+    let arguments: Vec<String> = env::args(&rt)?.skip(1).collect(rt.alloc())?;
+    run(&rt, &arguments)
 }
