@@ -1,91 +1,55 @@
 // The fifteen refusals.
-use crate::refusal::Refusal;
+use crate::refusal::Refusal::*;
 use crate::text::RefusalDisplay;
 use std::test::*;
 
 #[test]
-fn refusals_as_told(rt: LibcRuntime) -> Result<(), Fail> {
+fn numbers_names_and_places() -> Result<(), Fail> {
     let table = [
-        (
-            Refusal::ImageSize,
-            1,
-            "image size",
-            0,
-            "refused 1 image size",
-        ),
-        (Refusal::SheetEnd, 2, "sheet end", 0, "refused 2 sheet end"),
-        (
-            Refusal::SheetWord { index: 2 },
-            3,
-            "sheet word",
-            2,
-            "refused 3 sheet word at 2",
-        ),
-        (
-            Refusal::SheetRange { index: 63 },
-            4,
-            "sheet range",
-            63,
-            "refused 4 sheet range at 63",
-        ),
-        (
-            Refusal::MainWord { at: 0x0F },
-            5,
-            "main word",
-            15,
-            "refused 5 main word at 0x0F",
-        ),
-        (
-            Refusal::MainReturn { at: 0xFF },
-            6,
-            "main return",
-            255,
-            "refused 6 main return at 0xFF",
-        ),
-        (
-            Refusal::MainRegister { at: 0xA0 },
-            7,
-            "main register",
-            160,
-            "refused 7 main register at 0xA0",
-        ),
-        (
-            Refusal::HandlerWord { at: 0x3F },
-            8,
-            "handler word",
-            63,
-            "refused 8 handler word at 0x3F",
-        ),
-        (
-            Refusal::HandlerReturn { at: 0x00 },
-            9,
-            "handler return",
-            0,
-            "refused 9 handler return at 0x00",
-        ),
-        (
-            Refusal::HandlerWrite { at: 0x31 },
-            10,
-            "handler write",
-            49,
-            "refused 10 handler write at 0x31",
-        ),
-        (Refusal::Depth, 11, "depth", 0, "refused 11 depth"),
-        (Refusal::Register, 12, "register", 0, "refused 12 register"),
-        (Refusal::Port, 13, "port", 0, "refused 13 port"),
-        (Refusal::Budget, 14, "budget", 0, "refused 14 budget"),
-        (
-            Refusal::BurnBuffer,
-            15,
-            "burn buffer",
-            0,
-            "refused 15 burn buffer",
-        ),
+        (ImageSize, 1, "image size", 0),
+        (SheetEnd, 2, "sheet end", 0),
+        (SheetWord { index: 2 }, 3, "sheet word", 2),
+        (SheetRange { index: 63 }, 4, "sheet range", 63),
+        (MainWord { at: 0x0F }, 5, "main word", 0x0F),
+        (MainReturn { at: 0xFF }, 6, "main return", 0xFF),
+        (MainRegister { at: 0xA0 }, 7, "main register", 0xA0),
+        (HandlerWord { at: 0x3F }, 8, "handler word", 0x3F),
+        (HandlerReturn { at: 0x01 }, 9, "handler return", 0x01),
+        (HandlerWrite { at: 0x31 }, 10, "handler write", 0x31),
+        (Depth, 11, "depth", 0),
+        (Register, 12, "register", 0),
+        (Port, 13, "port", 0),
+        (Budget, 14, "budget", 0),
+        (BurnBuffer, 15, "burn buffer", 0),
     ];
-    for (refusal, number, name, place, text) in table {
+    for (refusal, number, name, place) in table {
         check_eq(refusal.number(), number)?;
         check_eq(refusal.name(), name)?;
         check_eq(refusal.place(), place)?;
+    }
+    Ok(())
+}
+
+#[test]
+fn texts(rt: LibcRuntime) -> Result<(), Fail> {
+    let table = [
+        (ImageSize, "refused 1 image size"),
+        (SheetEnd, "refused 2 sheet end"),
+        (SheetWord { index: 2 }, "refused 3 sheet word at 2"),
+        (SheetRange { index: 63 }, "refused 4 sheet range at 63"),
+        (MainWord { at: 15 }, "refused 5 main word at 0x0F"),
+        (MainReturn { at: 255 }, "refused 6 main return at 0xFF"),
+        (MainRegister { at: 160 }, "refused 7 main register at 0xA0"),
+        (HandlerWord { at: 63 }, "refused 8 handler word at 0x3F"),
+        (HandlerReturn { at: 1 }, "refused 9 handler return at 0x01"),
+        (HandlerWrite { at: 49 }, "refused 10 handler write at 0x31"),
+        (Depth, "refused 11 depth"),
+        (Register, "refused 12 register"),
+        (Port, "refused 13 port"),
+        (Budget, "refused 14 budget"),
+        (BurnBuffer, "refused 15 burn buffer"),
+    ];
+    for (refusal, text) in table {
         check_eq(refusal.to_string(rt.alloc())?.as_str(), text)?;
     }
     Ok(())
@@ -93,8 +57,8 @@ fn refusals_as_told(rt: LibcRuntime) -> Result<(), Fail> {
 
 #[test]
 fn addresses() -> Result<(), Fail> {
-    check_eq(Refusal::MainWord { at: 0x00 }.address(), Some(0x00))?;
-    check_eq(Refusal::HandlerWrite { at: 0x31 }.address(), Some(0x31))?;
-    check_eq(Refusal::SheetRange { index: 4 }.address(), None)?;
-    check_eq(Refusal::Depth.address(), None)
+    check_eq(MainWord { at: 0x00 }.address(), Some(0x00))?;
+    check_eq(HandlerWrite { at: 0x31 }.address(), Some(0x31))?;
+    check_eq(SheetRange { index: 4 }.address(), None)?;
+    check_eq(Depth.address(), None)
 }
