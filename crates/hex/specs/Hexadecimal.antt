@@ -17,9 +17,13 @@ value-of c =
     (cond (leb 65 c && leb c 70) (Some (c - 55))
     (cond (leb 97 c && leb c 102) (Some (c - 87)) None))
 
+-- the low four bits of a number as one digit
+abbrev pub one-digit : ℕ → List ℕ
+one-digit n = digit-of (n % 0x10) ∷ []
+
 -- a byte as two digits
 abbrev pub two-digits : ℕ → List ℕ
-two-digits b = digit-of (b / 0x10 % 0x10) ∷ digit-of (b % 0x10) ∷ []
+two-digits b = one-digit (b / 0x10) ++ one-digit b
 
 -- a word as four digits
 abbrev pub four-digits : ℕ → List ℕ

@@ -1,6 +1,6 @@
 // Bytes and words as text.
 ghost use Rattle.std.specs.declared.option.Option.the-variants.{Some};
-ghost use Rattle.hex.specs.Hexadecimal.{two-digits, four-digits};
+ghost use Rattle.hex.specs.Hexadecimal.{one-digit, two-digits, four-digits};
 use crate::digits::digit;
 use std::fmt;
 
@@ -12,12 +12,24 @@ pub struct HexByte(pub u8);
 #[derive(Clone, Copy, PartialEq, Eq, Debug)]
 pub struct HexWord(pub u16);
 
+// The low four bits of a number, shown as one capital digit.
+#[derive(Clone, Copy)]
+struct HexDigit(u8);
+
+impl fmt::Display for HexDigit as HexDigitDisplay {
+    ghost shown = { λ d. Some (one-digit (d .0)) };
+
+    fn fmt<W: fmt::Write>(&self, f: &mut fmt::Formatter<W>) -> fmt::Result {
+        write!(f, "{}", digit(self.0))
+    }
+}
+
 pub impl fmt::Display for HexByte as HexByteDisplay {
     ghost shown = { λ b. Some (two-digits (b .0)) };
 
     fn fmt<W: fmt::Write>(&self, f: &mut fmt::Formatter<W>) -> fmt::Result {
-        let high = digit(self.0 / 0x10);
-        let low = digit(self.0);
+        let high = HexDigit(self.0 / 0x10);
+        let low = HexDigit(self.0);
         write!(f, "{high}{low}")
     }
 }
