@@ -13,6 +13,3 @@ pub use formats::image_binary;
 pub use formats::image_text;
 pub use formats::sheet_text;
 pub use message::FaultDisplay;
-
-#[cfg(test)]
-mod tests;

@@ -1,7 +1,5 @@
 // Numbers as hexadecimal digits.
 mod digits;
-#[cfg(test)]
-mod tests;
 mod text;
 
 pub use digits::digit;

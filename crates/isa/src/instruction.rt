@@ -1,18 +1,15 @@
 // Instructions, by what they do.
 use crate::register::RegisterName;
-use crate::register::RegisterNameDebug;
-use crate::register::RegisterNameEq;
-use crate::register::RegisterNamePartialEq;
 
 // The second operand: a register, or a constant that the word holds.
-#[derive(Clone, Copy, PartialEq, Eq, Debug)]
+#[derive(Clone, Copy)]
 pub enum Operand {
     Register(RegisterName),
     Constant(u8),
 }
 
 // Operations on a register and a second operand.
-#[derive(Clone, Copy, PartialEq, Eq, Debug)]
+#[derive(Clone, Copy)]
 pub enum AluOperation {
     Add,
     Adc,
@@ -26,7 +23,7 @@ pub enum AluOperation {
 }
 
 // Shifts and rotates of one register.
-#[derive(Clone, Copy, PartialEq, Eq, Debug)]
+#[derive(Clone, Copy)]
 pub enum ShiftOperation {
     Sl0,
     Sl1,
@@ -40,7 +37,7 @@ pub enum ShiftOperation {
 }
 
 // When a jump is taken.
-#[derive(Clone, Copy, PartialEq, Eq, Debug)]
+#[derive(Clone, Copy)]
 pub enum Condition {
     Always,
     Zero,
@@ -55,7 +52,7 @@ pub enum Condition {
 
 // An instruction. Load and Store address memory by their operand, a constant address or the content of a register;
 // Jump and Call go to it likewise.
-#[derive(Clone, Copy, PartialEq, Eq, Debug)]
+#[derive(Clone, Copy)]
 pub enum Instruction {
     Alu(AluOperation, RegisterName, Operand),
     Move(RegisterName, Operand),

@@ -3,7 +3,6 @@ mod assembly;
 mod decoding;
 mod encoding;
 mod instruction;
-mod laws;
 mod register;
 
 pub use assembly::InstructionDisplay;
@@ -15,8 +14,4 @@ pub use instruction::Condition;
 pub use instruction::Instruction;
 pub use instruction::Operand;
 pub use instruction::ShiftOperation;
-pub use laws::defined_words;
-pub use laws::reread;
-pub use laws::rewritten;
-pub use laws::text;
 pub use register::RegisterName;

@@ -5,7 +5,7 @@ ghost use Rattle.std.specs.declared.result.Result.the-variants.{Ok, Err};
 ghost use Rattle.refusal.specs.declared.refusal.Refusal.the-variants.{Register as Unknown};
 use refusal::Refusal;
 
-#[derive(Clone, Copy, PartialEq, Eq, Debug)]
+#[derive(Clone, Copy)]
 pub struct RegisterName {
     number: u8,
     ghost small: { number < 16 },
@@ -32,7 +32,7 @@ impl RegisterName {
     }
 
     // The register that the low four bits of a number name.
-    pub fn from_low_bits(number: u8) -> Self
+    pub(crate) fn from_low_bits(number: u8) -> Self
         ensures { λ r. ⌜ r .number ≡ number % 16 ⌝ }
     {
         RegisterName {

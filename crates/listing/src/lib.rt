@@ -1,7 +1,5 @@
 // The listing of an image: each address with its word and its instruction.
 mod line;
-#[cfg(test)]
-mod tests;
 mod text;
 
 pub use line::Line;

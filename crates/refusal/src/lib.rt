@@ -1,8 +1,6 @@
 // What the toolkit refuses: a number, a name, a place and a line of text for each case.
 mod describe;
 mod refusal;
-#[cfg(test)]
-mod tests;
 mod text;
 
 pub use refusal::Refusal;

@@ -1,6 +1,4 @@
 // The report on a vetted image.
-#[cfg(test)]
-mod tests;
 mod text;
 
 pub use text::Report;

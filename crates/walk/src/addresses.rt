@@ -12,7 +12,7 @@ pub struct AddressSet {
 
 impl AddressSet {
     // The empty set.
-    pub fn new() -> AddressSet
+    pub(crate) fn new() -> AddressSet
         ensures { λ r. ⌜ ((a : ℕ) → Has r a → ⊥) ⌝ }
     {
         AddressSet {
@@ -28,7 +28,7 @@ impl AddressSet {
     }
 
     // Puts an address in, and tells whether it was not in before.
-    pub fn insert(&mut self, at: u8) -> bool
+    pub(crate) fn insert(&mut self, at: u8) -> bool
         ensures { λ r. ⌜ Inserted (now (self .entry)) at (now (self .exit)) r ⌝ }
     {
         let place = at as usize;
@@ -38,7 +38,7 @@ impl AddressSet {
     }
 
     // Whether no address is in the set.
-    pub fn is_empty(&self) -> bool
+    pub(crate) fn is_empty(&self) -> bool
         ensures yes { λ r. ⌜ (r ≡ true → (a : ℕ) → Has (now (self .entry)) a → ⊥) ⌝ }
         ensures not { λ r. ⌜ (r ≡ false → (a : ℕ) × Has (now (self .entry)) a) ⌝ }
     {

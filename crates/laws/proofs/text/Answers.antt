@@ -1,5 +1,5 @@
-use Rattle.isa.proofs.Reading.{different-texts}
-use Rattle.isa.proofs.laws.text.Needs as need
+use Rattle.laws.proofs.Reading.{different-texts}
+use Rattle.laws.proofs.text.Needs as need
 
 pub returns : need.returns
 returns c = record { all = different-texts; bytes = c .to-string .ensures .made }

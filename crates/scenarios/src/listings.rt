@@ -1,6 +1,6 @@
 // Listings of small images.
-use crate::text::ListingError;
-use crate::text::listing;
+use listing::ListingError;
+use listing::listing;
 use refusal::Refusal;
 use std::alloc::Global;
 use std::test::*;

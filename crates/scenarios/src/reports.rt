@@ -1,7 +1,7 @@
 // Reports as they are printed.
-use crate::text::Report;
-use crate::text::ReportDisplay;
 use refusal::Refusal;
+use report::Report;
+use report::ReportDisplay;
 use std::test::*;
 use vetting::Depths;
 

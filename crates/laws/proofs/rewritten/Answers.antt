@@ -1,7 +1,7 @@
 use mathlib.Core.Path.{_≡_, refl, sym, ap, _∙_}
 use Rattle.std.specs.declared.option.Option.the-variants.{Some}
 use Rattle.isa.proofs.Writing.{written-back}
-use Rattle.isa.proofs.laws.rewritten.Needs as need
+use Rattle.laws.proofs.rewritten.Needs as need
 
 pub returns-in-Some : need.returns-in-Some
 returns-in-Some c =

@@ -1,9 +1,9 @@
 // Bytes and words as text, and digits as numbers.
-use crate::digits::value;
-use crate::text::HexByte;
-use crate::text::HexByteDisplay;
-use crate::text::HexWord;
-use crate::text::HexWordDisplay;
+use hex::HexByte;
+use hex::HexByteDisplay;
+use hex::HexWord;
+use hex::HexWordDisplay;
+use hex::value;
 use std::test::*;
 
 #[test]

@@ -1,9 +1,9 @@
 // What good and damaged files give.
-use crate::fault::Fault;
-use crate::formats::image_binary;
-use crate::formats::image_text;
-use crate::formats::sheet_text;
-use crate::message::FaultDisplay;
+use files::Fault;
+use files::FaultDisplay;
+use files::image_binary;
+use files::image_text;
+use files::sheet_text;
 use std::alloc::AllocError;
 use std::alloc::Global;
 use std::fmt;

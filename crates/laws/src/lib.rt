@@ -1,15 +1,15 @@
 // What holds of all words and instructions, on the contracts of calls that use it.
 ghost use mathlib.Core.Path.{_≡_};
 ghost use Rattle.std.specs.declared.option.Option.the-variants.{Some, None};
 ghost use Rattle.isa.specs.Laws.{Read-back, Written-back, Defined-words};
 ghost use Rattle.isa.specs.Words.{decoded};
 ghost use Rattle.isa.specs.Assembly.{text-of, Different-texts};
 ghost use Rattle.std.specs.Of.String.{string-bytes};
 ghost use Rattle.std.specs.Vec.{made};
-use crate::assembly::InstructionDisplay;
-use crate::decoding::decode;
-use crate::encoding::encode;
-use crate::instruction::Instruction;
+use isa::Instruction;
+use isa::InstructionDisplay;
+use isa::decode;
+use isa::encode;
 use std::alloc::AllocError;
 use std::alloc::Global;
 

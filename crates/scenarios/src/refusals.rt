@@ -1,6 +1,6 @@
 // The fifteen refusals.
-use crate::refusal::Refusal::*;
-use crate::text::RefusalDisplay;
+use refusal::Refusal::*;
+use refusal::RefusalDisplay;
 use std::test::*;
 
 #[test]
