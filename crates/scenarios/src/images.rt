@@ -56,6 +56,23 @@ fn nested(calls: usize, enable: bool) -> [u16; 256] {
     image
 }
 
+// An image with a sheet, and the answer that is due.
+#[derive(Clone, Copy)]
+struct Case {
+    name: &'static str,
+    words: &'static [u16],
+    sheet: &'static [u32],
+    answer: Result<Depths, Refusal>,
+}
+
+// Vets each case and compares.
+fn compare(cases: &[Case]) -> Result<(), Fail> {
+    for case in cases {
+        check_eq(vet(&image_of(case.words), case.sheet), case.answer).note(case.name)?;
+    }
+    Ok(())
+}
+
 #[test]
 fn sizes() -> Result<(), Fail> {
     check_eq(vet(&[0xB000; 256], &ALONE), depths(0, 0, 0))?;
@@ -65,178 +82,270 @@ fn sizes() -> Result<(), Fail> {
 }
 
 #[test]
-fn sheets() -> Result<(), Fail> {
+fn long_sheets() -> Result<(), Fail> {
     let image = [0xB000; 256];
     let mut long = [0u32; 65];
     long[64] = END;
     check_eq(vet(&image, &long), Err(Refusal::SheetEnd)).note("65 words")?;
-    check_eq(vet(&image, &long[1..65]), depths(0, 0, 0)).note("64 words")?;
-    check_eq(vet(&image, &[]), Err(Refusal::SheetEnd)).note("no word")?;
-    check_eq(vet(&image, &[0x0000_000F]), Err(Refusal::SheetEnd)).note("no end word")?;
-    check_eq(vet(&image, &[END, END]), Err(Refusal::SheetEnd)).note("two end words")?;
-    check_eq(vet(&image, &[END, 0x0000_000F]), Err(Refusal::SheetEnd)).note("the end not last")?;
-    check_eq(
-        vet(&image, &[0x8000_0001]),
-        Err(Refusal::SheetWord { index: 0 }),
-    ).note("a bit in the end word")?;
-    check_eq(
-        vet(&image, &[0xF, 0xC000_0000, END]),
-        Err(Refusal::SheetWord { index: 1 }),
-    ).note("an unknown kind")?;
-    check_eq(
-        vet(&image, &[0x0001_0000, END]),
-        Err(Refusal::SheetWord { index: 0 }),
-    ).note("bit 16 of a range")?;
-    check_eq(
-        vet(&image, &[0x4001_0000, END]),
-        Err(Refusal::SheetWord { index: 0 }),
-    ).note("bit 16 of registers")?;
-    check_eq(
-        vet(&image, &[0xF, 0x0000_0500, END]),
-        Err(Refusal::SheetRange { index: 1 }),
-    ).note("a turned range")?;
-    check_eq(
-        vet(&image, &[0x0000_0500, 0xC000_0000, END]),
-        Err(Refusal::SheetRange { index: 0 }),
-    ).note("the words in their order")
+    check_eq(vet(&image, &long[1..65]), depths(0, 0, 0)).note("64 words")
+}
+
+#[test]
+fn sheets() -> Result<(), Fail> {
+    compare(
+        &[
+            Case {
+                name: "no word",
+                words: &[],
+                sheet: &[],
+                answer: Err(Refusal::SheetEnd),
+            },
+            Case {
+                name: "no end word",
+                words: &[],
+                sheet: &[0x0000_000F],
+                answer: Err(Refusal::SheetEnd),
+            },
+            Case {
+                name: "two end words",
+                words: &[],
+                sheet: &[END, END],
+                answer: Err(Refusal::SheetEnd),
+            },
+            Case {
+                name: "the end not last",
+                words: &[],
+                sheet: &[END, 0x0000_000F],
+                answer: Err(Refusal::SheetEnd),
+            },
+            Case {
+                name: "a bit in the end word",
+                words: &[],
+                sheet: &[0x8000_0001],
+                answer: Err(Refusal::SheetWord { index: 0 }),
+            },
+            Case {
+                name: "an unknown kind",
+                words: &[],
+                sheet: &[0xF, 0xC000_0000, END],
+                answer: Err(Refusal::SheetWord { index: 1 }),
+            },
+            Case {
+                name: "bit 16 of a range",
+                words: &[],
+                sheet: &[0x0001_0000, END],
+                answer: Err(Refusal::SheetWord { index: 0 }),
+            },
+            Case {
+                name: "bit 16 of registers",
+                words: &[],
+                sheet: &[0x4001_0000, END],
+                answer: Err(Refusal::SheetWord { index: 0 }),
+            },
+            Case {
+                name: "a turned range",
+                words: &[],
+                sheet: &[0xF, 0x0000_0500, END],
+                answer: Err(Refusal::SheetRange { index: 1 }),
+            },
+            Case {
+                name: "the words in their order",
+                words: &[],
+                sheet: &[0x0000_0500, 0xC000_0000, END],
+                answer: Err(Refusal::SheetRange { index: 0 }),
+            },
+        ],
+    )
 }
 
 #[test]
 fn main_rules() -> Result<(), Fail> {
-    check_eq(
-        vet(&image_of(&[0xBE00]), &ALONE),
-        Err(Refusal::MainWord { at: 0 }),
-    ).note("an undefined word")?;
-    check_eq(
-        vet(&image_of(&[0, 0xF0B3]), &ALONE),
-        Err(Refusal::MainWord { at: 1 }),
-    ).note("JMP (r3)")?;
-    check_eq(
-        vet(&image_of(&[0, 0, 0xF9B3]), &ALONE),
-        Err(Refusal::MainWord { at: 2 }),
-    ).note("JSR (r3)")?;
-    check_eq(
-        vet(&image_of(&[0xBD00, 0xBB00]), &ALONE),
-        Err(Refusal::MainWord { at: 1 }),
-    ).note("RTI")?;
-    check_eq(
-        vet(&image_of(&[0xBA00]), &ALONE),
-        Err(Refusal::MainReturn { at: 0 }),
-    ).note("RTS")?;
-    check_eq(
-        vet(&image_of(&[0xB902, 0xB002, 0xBA00]), &ALONE),
-        Err(Refusal::MainReturn { at: 2 }),
-    ).note("RTS, with a list and without")?;
-    check_eq(
-        vet(&image_of(&[0, 0x0805]), &HANDLER_REGISTERS),
-        Err(Refusal::MainRegister { at: 1 }),
-    ).note("ADD r8, #0x05")?;
-    check_eq(
-        vet(&image_of(&[0, 0xF0C9]), &HANDLER_REGISTERS),
-        Err(Refusal::MainRegister { at: 1 }),
-    ).note("MOV r0, r9")?;
-    check_eq(
-        vet(&image_of(&[0, 0xA800]), &HANDLER_REGISTERS),
-        Err(Refusal::MainRegister { at: 1 }),
-    ).note("CMP r8, #0x00 names it too")?;
-    check_eq(
-        vet(&image_of(&[0, 0xF0CA]), &HANDLER_REGISTERS),
-        depths(0, 0, 0),
-    ).note("MOV r0, r10")?;
-    check_eq(
-        vet(&image_of(&[0, 0, 0, 0x0800, 0, 0xBE00]), &HANDLER_REGISTERS),
-        Err(Refusal::MainWord { at: 5 }),
-    ).note("what lies behind a word that breaks 7 counts")
+    compare(
+        &[
+            Case {
+                name: "an undefined word",
+                words: &[0xBE00],
+                sheet: &ALONE,
+                answer: Err(Refusal::MainWord { at: 0 }),
+            },
+            Case {
+                name: "JMP (r3)",
+                words: &[0, 0xF0B3],
+                sheet: &ALONE,
+                answer: Err(Refusal::MainWord { at: 1 }),
+            },
+            Case {
+                name: "JSR (r3)",
+                words: &[0, 0, 0xF9B3],
+                sheet: &ALONE,
+                answer: Err(Refusal::MainWord { at: 2 }),
+            },
+            Case {
+                name: "RTI",
+                words: &[0xBD00, 0xBB00],
+                sheet: &ALONE,
+                answer: Err(Refusal::MainWord { at: 1 }),
+            },
+            Case {
+                name: "RTS",
+                words: &[0xBA00],
+                sheet: &ALONE,
+                answer: Err(Refusal::MainReturn { at: 0 }),
+            },
+            Case {
+                name: "RTS, with a list and without",
+                words: &[0xB902, 0xB002, 0xBA00],
+                sheet: &ALONE,
+                answer: Err(Refusal::MainReturn { at: 2 }),
+            },
+            Case {
+                name: "ADD r8, #0x05",
+                words: &[0, 0x0805],
+                sheet: &HANDLER_REGISTERS,
+                answer: Err(Refusal::MainRegister { at: 1 }),
+            },
+            Case {
+                name: "MOV r0, r9",
+                words: &[0, 0xF0C9],
+                sheet: &HANDLER_REGISTERS,
+                answer: Err(Refusal::MainRegister { at: 1 }),
+            },
+            Case {
+                name: "CMP r8, #0x00 names it too",
+                words: &[0, 0xA800],
+                sheet: &HANDLER_REGISTERS,
+                answer: Err(Refusal::MainRegister { at: 1 }),
+            },
+            Case {
+                name: "MOV r0, r10",
+                words: &[0, 0xF0CA],
+                sheet: &HANDLER_REGISTERS,
+                answer: depths(0, 0, 0),
+            },
+            Case {
+                name: "what lies behind a word that breaks 7 counts",
+                words: &[0, 0, 0, 0x0800, 0, 0xBE00],
+                sheet: &HANDLER_REGISTERS,
+                answer: Err(Refusal::MainWord { at: 5 }),
+            },
+        ],
+    )
 }
 
 #[test]
 fn handler_rules() -> Result<(), Fail> {
-    check_eq(
-        vet(&image_of(&[0xB002, 0xBE00, 0xBD00, 0xB003]), &ALONE),
-        Err(Refusal::HandlerWord { at: 1 }),
-    ).note("an undefined word")?;
-    check_eq(
-        vet(&image_of(&[0xB002, 0xF0B3, 0xBD00, 0xB003]), &ALONE),
-        Err(Refusal::HandlerWord { at: 1 }),
-    ).note("JMP (r3)")?;
-    check_eq(
-        vet(
-            &image_of(&[0xB002, 0xB004, 0xBD00, 0xB003, 0xF093, 0xBB00]),
-            &ALONE,
-        ),
-        Err(Refusal::HandlerWord { at: 4 }),
-    ).note("MOV (r3), r0")?;
-    check_eq(
-        vet(
-            &image_of(&[0xB002, 0xB004, 0xBD00, 0xB003, 0xBD00, 0xBB00]),
-            &ALONE,
-        ),
-        Err(Refusal::HandlerWord { at: 4 }),
-    ).note("STI")?;
-    check_eq(
-        vet(&image_of(&[0xB002, 0xBA00, 0xBD00, 0xB003]), &ALONE),
-        Err(Refusal::HandlerReturn { at: 1 }),
-    ).note("RTS with an empty list")?;
-    check_eq(
-        vet(&image_of(&[0xB002, 0xB904, 0xBD00, 0xB003, 0xBB00]), &ALONE),
-        Err(Refusal::HandlerReturn { at: 4 }),
-    ).note("RTI with a filled list")?;
-    check_eq(
-        vet(
-            &image_of(&[0xB002, 0xB004, 0xBD00, 0xB003, 0x0001, 0xBB00]),
-            &GUARDED,
-        ),
-        Err(Refusal::HandlerWrite { at: 4 }),
-    ).note("ADD r0, #0x01")?;
-    check_eq(
-        vet(
-            &image_of(&[0xB002, 0xB004, 0xBD00, 0xB003, 0x980F, 0xBB00]),
-            &GUARDED,
-        ),
-        Err(Refusal::HandlerWrite { at: 4 }),
-    ).note("MOV 0x0F, r8")?;
-    check_eq(
-        vet(
-            &image_of(&[0xB002, 0xB004, 0xBD00, 0xB003, 0x9810, 0xBB00]),
-            &GUARDED,
-        ),
-        depths(0, 0, 1),
-    ).note("MOV 0x10, r8")?;
-    check_eq(
-        vet(
-            &image_of(&[0xB002, 0xB004, 0xBD00, 0xB003, 0xA001, 0xBB00]),
-            &GUARDED,
-        ),
-        depths(0, 0, 1),
-    ).note("CMP r0, #0x01 writes nothing")
+    compare(
+        &[
+            Case {
+                name: "an undefined word",
+                words: &[0xB002, 0xBE00, 0xBD00, 0xB003],
+                sheet: &ALONE,
+                answer: Err(Refusal::HandlerWord { at: 1 }),
+            },
+            Case {
+                name: "JMP (r3)",
+                words: &[0xB002, 0xF0B3, 0xBD00, 0xB003],
+                sheet: &ALONE,
+                answer: Err(Refusal::HandlerWord { at: 1 }),
+            },
+            Case {
+                name: "MOV (r3), r0",
+                words: &[0xB002, 0xB004, 0xBD00, 0xB003, 0xF093, 0xBB00],
+                sheet: &ALONE,
+                answer: Err(Refusal::HandlerWord { at: 4 }),
+            },
+            Case {
+                name: "STI",
+                words: &[0xB002, 0xB004, 0xBD00, 0xB003, 0xBD00, 0xBB00],
+                sheet: &ALONE,
+                answer: Err(Refusal::HandlerWord { at: 4 }),
+            },
+            Case {
+                name: "RTS with an empty list",
+                words: &[0xB002, 0xBA00, 0xBD00, 0xB003],
+                sheet: &ALONE,
+                answer: Err(Refusal::HandlerReturn { at: 1 }),
+            },
+            Case {
+                name: "RTI with a filled list",
+                words: &[0xB002, 0xB904, 0xBD00, 0xB003, 0xBB00],
+                sheet: &ALONE,
+                answer: Err(Refusal::HandlerReturn { at: 4 }),
+            },
+            Case {
+                name: "ADD r0, #0x01",
+                words: &[0xB002, 0xB004, 0xBD00, 0xB003, 0x0001, 0xBB00],
+                sheet: &GUARDED,
+                answer: Err(Refusal::HandlerWrite { at: 4 }),
+            },
+            Case {
+                name: "MOV 0x0F, r8",
+                words: &[0xB002, 0xB004, 0xBD00, 0xB003, 0x980F, 0xBB00],
+                sheet: &GUARDED,
+                answer: Err(Refusal::HandlerWrite { at: 4 }),
+            },
+            Case {
+                name: "MOV 0x10, r8",
+                words: &[0xB002, 0xB004, 0xBD00, 0xB003, 0x9810, 0xBB00],
+                sheet: &GUARDED,
+                answer: depths(0, 0, 1),
+            },
+            Case {
+                name: "CMP r0, #0x01 writes nothing",
+                words: &[0xB002, 0xB004, 0xBD00, 0xB003, 0xA001, 0xBB00],
+                sheet: &GUARDED,
+                answer: depths(0, 0, 1),
+            },
+        ],
+    )
 }
 
 #[test]
 fn walks_and_depths() -> Result<(), Fail> {
-    check_eq(
-        vet(&image_of(&[0xB002, 0xBB00, 0xBD00, 0xB003]), &ALONE),
-        depths(0, 0, 1),
-    ).note("STI")?;
-    check_eq(
-        vet(&image_of(&[0xB903, 0xBE00, 0, 0xB003]), &ALONE),
-        depths(1, 0, 1),
-    ).note("behind a call that never returns nothing is reached")?;
-    check_eq(
-        vet(&image_of(&[0xB002, 0xBE00, 0xB002]), &ALONE),
-        depths(0, 0, 0),
-    ).note("without STI the handler is not walked")?;
-    check_eq(
-        vet(
-            &image_of(&[0xB002, 0xB004, 0xBD00, 0xB003, 0xB906, 0xBB00, 0xBA00]),
-            &ALONE,
-        ),
-        depths(0, 1, 2),
-    ).note("a call in the handler")?;
-    check_eq(vet(&image_of(&[0xB900]), &ALONE), Err(Refusal::Depth)).note("calls without end")?;
-    check_eq(
-        vet(&image_of(&[0xB104, 0xB900, 0, 0, 0xBE00]), &ALONE),
-        Err(Refusal::MainWord { at: 4 }),
-    ).note("5 comes before 11")?;
+    compare(
+        &[
+            Case {
+                name: "STI",
+                words: &[0xB002, 0xBB00, 0xBD00, 0xB003],
+                sheet: &ALONE,
+                answer: depths(0, 0, 1),
+            },
+            Case {
+                name: "behind a call that never returns nothing is reached",
+                words: &[0xB903, 0xBE00, 0, 0xB003],
+                sheet: &ALONE,
+                answer: depths(1, 0, 1),
+            },
+            Case {
+                name: "without STI the handler is not walked",
+                words: &[0xB002, 0xBE00, 0xB002],
+                sheet: &ALONE,
+                answer: depths(0, 0, 0),
+            },
+            Case {
+                name: "a call in the handler",
+                words: &[0xB002, 0xB004, 0xBD00, 0xB003, 0xB906, 0xBB00, 0xBA00],
+                sheet: &ALONE,
+                answer: depths(0, 1, 2),
+            },
+            Case {
+                name: "calls without end",
+                words: &[0xB900],
+                sheet: &ALONE,
+                answer: Err(Refusal::Depth),
+            },
+            Case {
+                name: "5 comes before 11",
+                words: &[0xB104, 0xB900, 0, 0, 0xBE00],
+                sheet: &ALONE,
+                answer: Err(Refusal::MainWord { at: 4 }),
+            },
+        ],
+    )
+}
+
+#[test]
+fn nested_calls() -> Result<(), Fail> {
     check_eq(vet(&nested(15, true), &ALONE), depths(15, 0, 16)).note("15 calls and an interrupt")?;
     check_eq(vet(&nested(16, true), &ALONE), Err(Refusal::Depth)).note(
         "16 calls and an interrupt",
