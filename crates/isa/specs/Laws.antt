@@ -48,11 +48,12 @@ Read-back = (i : Instruction) → Byte-sized i → decoded (encoded i) ≡ Some 
 abbrev pub Written-back : Type 0
 Written-back = (w : ℕ) → w < 2 ^ 16 → (i : Instruction) → decoded w ≡ Some i → Has-word i w
 
--- how many of the 2 ^ k numbers from n on pass a test
+-- 1 for a test that passes, else 0
 abbrev pub tally : Bool → ℕ
 tally true = 1
 tally false = 0
 
+-- how many of the 2 ^ k numbers from n on pass a test
 abbrev pub passing : (ℕ → Bool) → ℕ → ℕ → ℕ
 passing f n zero = tally (f n)
 passing f n (suc k) = passing f n k + passing f (n + 2 ^ k) k

@@ -17,8 +17,7 @@ use Rattle.isa.specs.declared.instruction.Condition.the-variants.{Always, Zero
 use Rattle.isa.specs.declared.instruction.Instruction.{Instruction}
 use Rattle.isa.specs.declared.instruction.Instruction.the-variants.{Alu, Move, Load, Store, Jump, Call, Return, ReturnFromInterrupt, DisableInterrupts, EnableInterrupts, Swap, Shift}
 
--- the codes
-
+-- the code of an operation on two operands
 abbrev pub alu-code : AluOperation → ℕ
 alu-code Add = 0
 alu-code Adc = 1
@@ -30,6 +29,7 @@ alu-code Xor = 6
 alu-code Tst = 8
 alu-code Cmp = 10
 
+-- the code of a shift or rotate
 abbrev pub shift-code : ShiftOperation → ℕ
 shift-code Sl0 = 0
 shift-code Sr0 = 1
@@ -41,6 +41,7 @@ shift-code Rlc = 6
 shift-code Rrc = 7
 shift-code Asr = 9
 
+-- the code of a jump on a condition
 abbrev pub jump-code : Condition → ℕ
 jump-code Always = 0
 jump-code Zero = 1
@@ -81,8 +82,7 @@ encoded (Shift s x) = 0xF070 + x .number * 0x100 + shift-code s
 unfoldable pub register : ℕ → RegisterName
 register n = record { number = n % 16; small = mod-lt n (lit< tt) }
 
--- reading: the codes the other way round, and no code twice
-
+-- what a test picks, or else what comes after it
 abbrev pub pick : {A : Type 0} → Bool → A → Option A → Option A
 pick true a rest = Some a
 pick false a rest = rest

@@ -24,9 +24,11 @@ onward-of r deep a (Call t) =
 onward-of r deep a Return = record { first = None; second = None }
 onward-of r deep a Nowhere = record { first = None; second = None }
 
+-- a word leads to this address
 abbrev pub To : Onward → ℕ → Type 0
 To o b = (o .first ≡ Some b) ⊎ (o .second ≡ Some b)
 
+-- the word at a leads to b, as the code follows it
 abbrev pub Edge : List Flow → AddressSet → Bool → ℕ → ℕ → Type 0
 Edge flows r deep a b = To (onward-of r deep a (graph flows a)) b
 

@@ -7,12 +7,15 @@ use lib.ListN.{getD}
 use Rattle.std.specs.shelf.Lists.{countBy}
 use Rattle.walk.specs.declared.addresses.AddressSet.{AddressSet}
 
+-- whether the set holds an address
 abbrev pub has : AddressSet → ℕ → Bool
 has s a = getD (s .members) a false
 
+-- the set holds an address
 abbrev pub Has : AddressSet → ℕ → Type 0
 Has s a = has s a ≡ true
 
+-- the set holds addresses only, which are below 256
 abbrev pub Within : AddressSet → Type 0
 Within s = (a : ℕ) → Has s a → a < 256
 
