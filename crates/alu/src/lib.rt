@@ -1,4 +1,6 @@
 // Arithmetic, logic, shifts and rotates: each result with the flags after it.
+#![tactic(auto)]
+
 mod arithmetic;
 mod flags;
 mod operation;

@@ -1,4 +1,6 @@
 // The bus of a station: what every bus and every device does and keeps to.
+#![tactic(auto)]
+
 ghost use Rattle.std.specs.Prelude.{ℕ, ◌<◌, ◌^◌, ◌≤◌, ◌≡◌};
 ghost use Rattle.bus.specs.Meaning.{KeptReadsCell, KindStays, Meaning, QuietAltersNoCell, WriteSetsCell, clock, drive, read, write};
 

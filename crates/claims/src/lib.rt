@@ -1,4 +1,5 @@
 // The claims about interrupts.
+#![tactic(auto)]
 
 // Nothing yet.
 pub fn nothing() -> u8 {

@@ -1,4 +1,6 @@
 // The command line of the program: what is asked for, or what was expected.
+#![tactic(auto)]
+
 mod command;
 mod usage;
 

@@ -1,4 +1,6 @@
 // The devices of a control desk, and its bus.
+#![tactic(auto)]
+
 mod buttons;
 mod desk_bus;
 mod input;

@@ -1,4 +1,6 @@
 // The worked examples of words and images.
+#![tactic(auto)]
+
 ghost use Rattle.examples.specs.Worked.{WorkedExamples, with_first, lone_end, WorkedAnswer};
 ghost use Rattle.vetting.specs.Verdicts.{Answered};
 

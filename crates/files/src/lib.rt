@@ -1,4 +1,6 @@
 // The words of an image or a sheet, from the bytes of its file.
+#![tactic(auto)]
+
 mod fault;
 mod formats;
 mod message;

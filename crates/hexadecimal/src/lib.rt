@@ -1,4 +1,6 @@
 // Numbers as hexadecimal digits.
+#![tactic(auto)]
+
 mod digits;
 mod text;
 

@@ -1,4 +1,6 @@
 // The instructions of the MiniRISC processor: their words and their text.
+#![tactic(auto)]
+
 mod assembly;
 mod decoding;
 mod encoding;

@@ -1,4 +1,6 @@
 // What holds of all words and instructions, on the contracts of calls that use it.
+#![tactic(auto)]
+
 ghost use Rattle.std.specs.Prelude.{◌≡◌, IfOk, Some, None, string_bytes};
 ghost use Rattle.isa.specs.Laws.{ReadBack, WrittenBack, DefinedWords};
 ghost use Rattle.isa.specs.Words.{decoded};

@@ -1,4 +1,6 @@
 // The listing of an image: each address with its word and its instruction.
+#![tactic(auto)]
+
 mod line;
 mod text;
 

@@ -1,4 +1,6 @@
 // The MiniRISC processor: its registers, flags and stack, and one step of it over any bus.
+#![tactic(auto)]
+
 mod access;
 mod execution;
 mod pointer;

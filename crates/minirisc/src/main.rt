@@ -1,4 +1,6 @@
 // The program: lists and vets the image of a control desk.
+#![tactic(auto)]
+
 use cli::{Command, HELP, parse};
 use files::{Fault, image_binary, image_text, sheet_text};
 use listing::{ListingError, listing};

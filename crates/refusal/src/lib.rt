@@ -1,4 +1,6 @@
 // What the toolkit refuses: a number, a name, a place and a line of text for each case.
+#![tactic(auto)]
+
 mod describe;
 mod refusal;
 mod text;

@@ -1,4 +1,6 @@
 // The report on a vetted image.
+#![tactic(auto)]
+
 mod text;
 
 pub use text::Report;

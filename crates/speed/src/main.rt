@@ -1,4 +1,6 @@
 // Runs steps on the desk's bus, to be timed: a loop with a store, a load, arithmetic, a call, a shift, a return and jumps.
+#![tactic(auto)]
+
 use devices::desk;
 use machine::{Processor, step};
 use std::io;

@@ -1,4 +1,6 @@
 // Sessions: a station's calls, each with what it does and the claims about interrupts.
+#![tactic(auto)]
+
 mod acting;
 mod looking;
 mod places;

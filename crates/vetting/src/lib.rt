@@ -1,4 +1,6 @@
 // Vetting: whether an image may be burned with its sheet, and how deep its calls go.
+#![tactic(auto)]
+
 mod depths;
 mod judging;
 mod rulebooks;

@@ -1,4 +1,6 @@
 // Walks over a program of 256 words with calls and returns: which addresses are reached, and how deep the calls go.
+#![tactic(auto)]
+
 mod addresses;
 mod flow;
 mod search;

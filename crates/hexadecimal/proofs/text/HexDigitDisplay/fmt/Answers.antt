@@ -9,4 +9,4 @@ pub returns-clause-writes : goal.returns-clause-writes
 returns-clause-writes g c plain ok =
     let byte = encode_ascii c.digit.result c.digit.ensures.ascii in
     let same : encode c.digit.result ≡ one_digit c.args.self.now.0 = rw (byte, c.digit.ensures.digit) in
-    rw same at (c.write.ensures.shows plain ok)
+    rw same at (c.write.ensures.writes plain ok)
