@@ -1,20 +1,13 @@
 -- A word that was made from an instruction is read as that instruction.
-use Rattle.std.proofs.Common.{◌≡◌, ℕ, ◌+◌, ◌*◌, ◌/◌, ◌%◌, ◌^◌, ◌<◌, Bool, true, false, eqb, ◌≢◌, Some, None, Option, sym, refl, ap, ◌∙◌, subst, arith, rules}
+use Rattle.std.proofs.Common.{◌≡◌, ℕ, ◌+◌, ◌*◌, ◌/◌, ◌%◌, ◌<◌, ◌≢◌, Some, refl, ap, ◌∙◌, subst, arith}
 use native.Mathlib.Bridge.{le_prop}
-use Rattle.std.proofs.lemmas.Bool.Decides.{nat_tests}
 use Rattle.isa.specs.declared.register.RegisterName.{RegisterName}
 use Rattle.isa.specs.declared.instruction.Operand.{Operand}
 use Rattle.isa.specs.declared.instruction.Operand.TheVariants.{Register, Constant}
 use Rattle.isa.specs.declared.instruction.AluOperation.{AluOperation}
-use Rattle.isa.specs.declared.instruction.AluOperation.TheVariants.{Add, Adc, Sub, Sbc, And, Or, Xor, Tst, Cmp}
-use Rattle.isa.specs.declared.instruction.ShiftOperation.{ShiftOperation}
-use Rattle.isa.specs.declared.instruction.ShiftOperation.TheVariants.{Sl0, Sl1, Sr0, Sr1, Asr, Rol, Ror, Rlc, Rrc}
-use Rattle.isa.specs.declared.instruction.Condition.{Condition}
-use Rattle.isa.specs.declared.instruction.Condition.TheVariants.{Always, Zero, NotZero, Carry, NoCarry, Negative, NotNegative, Overflow, NoOverflow}
-use Rattle.isa.specs.declared.instruction.Instruction.{Instruction}
 use Rattle.isa.specs.declared.instruction.Instruction.TheVariants.{Alu, Move, Load, Store, Jump, Call, Return, ReturnFromInterrupt, DisableInterrupts, EnableInterrupts, Swap, Shift}
 use Rattle.isa.specs.Words.{alu_code, shift_code, jump_code, two_operand, jump_to, encoded, register, decoded, word_form, register_form, operand_form, jump_form, shift_form}
-use Rattle.isa.specs.Laws.{ReadBack, WrittenBack, ByteSized, ByteOperand}
+use Rattle.isa.specs.Laws.{ReadBack, ByteOperand}
 
 -- two names of one number are one name
 pub same_name : (x y : RegisterName) → x.number ≡ y.number → x ≡ y

@@ -5,7 +5,7 @@ use Rattle.isa.specs.declared.register.RegisterName.{RegisterName}
 use Rattle.isa.specs.declared.instruction.Operand.{Operand}
 use Rattle.isa.specs.declared.instruction.Operand.TheVariants.{Register, Constant}
 use Rattle.isa.specs.declared.instruction.Instruction.{Instruction}
-use Rattle.isa.specs.Words.{two_operand, jump_to, encoded, register, decoded, word_form, register_form, flow_form, operand_form, jump_form, shift_form}
+use Rattle.isa.specs.Words.{two_operand, jump_to, register, decoded, word_form, register_form, flow_form, operand_form, jump_form, shift_form}
 use Rattle.isa.specs.Laws.{WrittenBack, ByteOperand, HasWord, Corresponds}
 use Rattle.isa.proofs.Back.{read_back}
 

@@ -1,5 +1,5 @@
 -- The words of the instructions. A word has four hexadecimal digits; X and Y name registers, K is a byte.
-use Rattle.std.specs.Prelude.{ℕ, ◌+◌, ◌*◌, ◌/◌, ◌%◌, ◌<◌, Bool, true, false, not, ◌&&◌, Some, None, Option, ◌==◌, nat_le}
+use Rattle.std.specs.Prelude.{ℕ, ◌+◌, ◌*◌, ◌/◌, ◌%◌, Bool, true, false, not, ◌&&◌, Some, None, Option, ◌==◌, nat_le}
 use Rattle.std.proofs.Common.{mod-lt, lit<}
 use Rattle.isa.specs.declared.register.RegisterName.{RegisterName}
 use Rattle.isa.specs.declared.instruction.Operand.{Operand}

@@ -5,6 +5,6 @@ use Rattle.isa.proofs.encoding.encode.Goals as goal
 
 pub returns : goal.returns
 returns c = record {
-  word = (c.word-of.ensures.bytes, sym c.word-of.ensures.word);
-  back = ap decoded c.word-of.ensures.word ∙ read_back c.args.instruction c.word-of.ensures.bytes;
+  word = (c.word_of.ensures.bytes, sym c.word_of.ensures.word);
+  back = ap decoded c.word_of.ensures.word ∙ read_back c.args.instruction c.word_of.ensures.bytes;
 }
