@@ -1,5 +1,5 @@
 use Rattle.std.proofs.Common.{refl}
 use Rattle.laws.proofs.defined_words.Goals as goal
 
-pub returns : goal.returns
-returns c = record { count = refl; answer = refl }
+pub returns-clause-count : goal.returns-clause-count
+returns-clause-count c = refl

@@ -1,6 +1,5 @@
-use Rattle.std.proofs.Common.{◌∙◌}
 use Rattle.isa.proofs.Back.{read_back}
 use Rattle.laws.proofs.reread.Goals as goal
 
-pub returns : goal.returns
-returns c = record { all = read_back; same = c.decode.ensures.reads ∙ c.encode.ensures.back }
+pub returns-clause-all : goal.returns-clause-all
+returns-clause-all c = read_back
