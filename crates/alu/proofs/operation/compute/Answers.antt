@@ -1,4 +1,4 @@
-use Rattle.std.proofs.Common.{◌≡◌, ◌<◌, sym, subst, rules}
+use Rattle.std.proofs.Common.{◌<◌, sym, subst, rules}
 use Rattle.alu.specs.declared.outcome.Outcome.{Outcome}
 use Rattle.alu.specs.Laws.{Exact}
 use Rattle.alu.specs.Results.{computed}
@@ -7,7 +7,7 @@ use Rattle.alu.proofs.operation.compute.Goals as goal
 
 pub returns : goal.returns
 returns c =
-    let e = c.by-operation.ensures in
+    let e = c.by_operation.ensures in
     let small : (computed c.args.operation c.args.a c.args.b c.args.flags).value < 256 = subst (λ (r : Outcome). r.value < 256) e (search rules) in
     record {
       result = e;
