@@ -1,9 +1,8 @@
 -- The levels hold exactly what the walk reaches: an address is in level k if and only if it is reached with a list of k addresses.
-use Rattle.std.proofs.Common.{◌≡◌, ℕ, zero, suc, ◌≤◌, Bool, true, false, List, [], ◌∷◌, length, Some, None, sym, refl, ap, subst, inl, inr, zero-le, arith}
+use Rattle.std.proofs.Common.{◌≡◌, ℕ, zero, suc, ◌≤◌, true, false, List, [], ◌∷◌, length, Some, None, refl, ap, inl, inr, zero-le, arith}
 use mathlib.Core.Bool.{false≢true}
 use Rattle.std.proofs.lemmas.Bool.{cases_eq}
-use Rattle.walk.specs.declared.flow.Flow.TheVariants.{Call, Return}
-use Rattle.walk.specs.Walk.{after, Graph, Goes, Leads, Reaches, Deepest}
+use Rattle.walk.specs.Walk.{after, Graph, Leads, Reaches, Deepest}
 use Rattle.walk.specs.Frames.{Returning, Step, Spread, Entered, Base, Level}
 
 -- what holds of the addresses given and is handed on by each step holds of all that the steps come to

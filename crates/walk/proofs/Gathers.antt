@@ -1,5 +1,5 @@
 -- The search for the targets of calls, and from level to level.
-use Rattle.std.proofs.Common.{◌≡◌, ℕ, suc, ◌+◌, ◌<◌, ◌≤◌, Bool, true, false, ◌⊎◌, ◌↔◌, List, length, sym, refl, ◌∙◌, inl, inr, arith}
+use Rattle.std.proofs.Common.{◌≡◌, ℕ, suc, ◌+◌, ◌≤◌, Bool, false, ◌↔◌, List, length, inl, inr, arith}
 use Rattle.std.proofs.lemmas.List.{get_or_past}
 use Rattle.std.proofs.lemmas.Bool.{cases_eq, cases_lt}
 use Rattle.walk.specs.declared.addresses.AddressSet.{AddressSet}
@@ -7,7 +7,7 @@ use Rattle.walk.specs.declared.flow.Flow.{Flow}
 use Rattle.walk.specs.declared.flow.Flow.TheVariants.{Call, Nowhere}
 use Rattle.walk.specs.Sets.{Has, Inserted}
 use Rattle.walk.specs.Walk.{Graph, graph}
-use Rattle.walk.specs.Frames.{Returning, Step, Spread, Entered, Base, Level}
+use Rattle.walk.specs.Frames.{Returning, Entered, Base, Level}
 use Rattle.walk.specs.Passes.{Edge, Closure, Gathered}
 use Rattle.walk.proofs.Edges.{closed, entered_same}
 

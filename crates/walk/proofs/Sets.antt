@@ -1,9 +1,8 @@
 -- What an insertion does to a set of addresses.
-use Rattle.std.proofs.Common.{◌≡◌, ℕ, suc, ◌+◌, ◌<◌, ◌≤◌, Bool, true, false, cond, not, ◌||◌, ◌≢◌, ◌⊎◌, List, [], ◌∷◌, length, get_or, set, sym, refl, ap, ◌∙◌, inl, inr, true≢false, arith, get_or-set_other, get_or-set_same}
+use Rattle.std.proofs.Common.{◌≡◌, ℕ, ◌<◌, Bool, true, false, cond, not, ◌||◌, ◌⊎◌, List, length, set, sym, refl, ap, ◌∙◌, inl, inr, true≢false, arith, get_or-set_other, get_or-set_same}
 use mathlib.Core.Bool.{false≢true}
 use lib.Seq.{set-get_or}
 use Rattle.std.proofs.lemmas.List.Sums.{sum_by-set}
-use Rattle.std.proofs.lemmas.List.{get_or_past}
 use Rattle.std.proofs.lemmas.Bool.{cases_eq}
 use Rattle.walk.specs.declared.addresses.AddressSet.{AddressSet}
 use Rattle.walk.specs.Sets.{has, Has, absent, Grown, Inserted}

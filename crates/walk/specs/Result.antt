@@ -1,5 +1,5 @@
 -- What a walk answers.
-use Rattle.std.specs.Prelude.{◌≡◌, ℕ, ◌↔◌, List, [], ◌∷◌}
+use Rattle.std.specs.Prelude.{ℕ, ◌↔◌, List, [], ◌∷◌}
 use Rattle.walk.specs.declared.search.Reach.{Reach}
 use Rattle.walk.specs.Sets.{Has, Within}
 use Rattle.walk.specs.Walk.{Graph, Reaches, Deepest}

@@ -1,4 +1,4 @@
-use Rattle.std.proofs.Common.{true, false, refl}
+use Rattle.std.proofs.Common.{true, false}
 use Rattle.walk.specs.Walk.{graph}
 use Rattle.walk.specs.Frames.{Base}
 use Rattle.walk.proofs.Edges.{closed}

@@ -1,4 +1,4 @@
-use Rattle.std.proofs.Common.{true, false, length, sym, ◌∙◌, inl, inr, true≢false, arith}
+use Rattle.std.proofs.Common.{false, sym, ◌∙◌, inl, inr, true≢false, arith}
 use mathlib.Core.Bool.{false≢true}
 use Rattle.std.proofs.lemmas.List.{get_or_past}
 use Rattle.std.proofs.lemmas.Bool.{cases_lt}

@@ -1,4 +1,4 @@
-use Rattle.std.proofs.Common.{◌≡◌, ℕ, ◌<◌, true}
+use Rattle.std.proofs.Common.{ℕ, ◌<◌}
 use Rattle.walk.specs.Sets.{Has}
 use Rattle.walk.proofs.addresses.AddressSet.is_empty.Given as goal
 
