@@ -1,8 +1,8 @@
 -- The sets of a walk tell what is broken, and the rules are tried in the order of their numbers.
-use Rattle.std.proofs.Common.{◌≡◌, ℕ, zero, suc, ◌+◌, ◌-◌, ◌<◌, ◌≤◌, Bool, true, false, ◌&&◌, ◌||◌, ◌⊎◌, ◌↔◌, List, [], ◌∷◌, get_or, sym, refl, subst, inl, inr, arith}
+use Rattle.std.proofs.Common.{◌≡◌, ℕ, zero, suc, ◌+◌, ◌-◌, ◌<◌, ◌≤◌, true, false, ◌&&◌, List, [], ◌∷◌, get_or, sym, refl, subst, inl, inr, arith}
 use Rattle.std.proofs.lemmas.Bool.{or_cases, or_left, or_right, and_parts, and_from}
 use Rattle.walk.specs.declared.search.Reach.{Reach}
-use Rattle.walk.specs.Sets.{has, Has, Within}
+use Rattle.walk.specs.Sets.{has, Within}
 use Rattle.walk.specs.Walk.{Graph, Reaches}
 use Rattle.walk.specs.Result.{Walked}
 use Rattle.vetting.specs.declared.rules.Rule.{Rule}

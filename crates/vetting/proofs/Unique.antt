@@ -1,20 +1,20 @@
 -- One answer fits an image and a sheet: two that fit agree.
-use Rattle.std.proofs.Common.{◌≡◌, ℕ, ◌+◌, ◌<◌, ◌≤◌, Bool, true, false, ◌⊎◌, List, length, get_or, Ok, Err, Result, sym, refl, ap, ◌∙◌, subst, inl, inr, arith}
+use Rattle.std.proofs.Common.{◌≡◌, ℕ, ◌<◌, ◌⊎◌, List, length, get_or, Ok, Err, Result, sym, refl, ap, ◌∙◌, subst, inl, inr, arith}
 use mathlib.Core.Path.{fun_ext}
 use mathlib.Core.Bool.{false≢true}
 use Rattle.std.proofs.lemmas.Bool.{cases_order}
 use Rattle.refusal.specs.declared.refusal.Refusal.{Refusal}
 use Rattle.refusal.specs.declared.refusal.Refusal.TheVariants.{ImageSize, SheetEnd, SheetWord, SheetRange, MainWord as main-word, MainReturn as main-return, MainRegister as main-register, HandlerWord as handler-word, HandlerReturn as handler-return, HandlerWrite as handler-write, Depth, Register, Port, Budget, BurnBuffer}
 use Rattle.refusal.specs.Refusals.{number_of, place_of}
-use Rattle.walk.specs.Walk.{Graph, Reaches, Longest}
+use Rattle.walk.specs.Walk.{Graph, Longest}
 use Rattle.vetting.specs.declared.depths.Depths.{Depths}
 use Rattle.vetting.specs.declared.rules.Rule.{Rule}
 use Rattle.vetting.specs.declared.rules.Rule.TheVariants.{MainWord, MainReturn, MainRegister, HandlerWord, HandlerReturn, HandlerWrite}
 use Rattle.vetting.specs.declared.sheet.Sheet.{Sheet}
-use Rattle.vetting.specs.Sheets.{Ended, Fine, FineBelow, FirstBad, FirstImproper, FirstTurned, Read_from, SheetRefused, proper, turned}
-use Rattle.vetting.specs.Programs.{Program, graph_of}
-use Rattle.vetting.specs.Verdicts.{Counted, Broken, TooDeep, Accepted, HandlerDepths, FirstBroken, InOrder, Refused, Answered, Free, Agree, program_of, rule_number, image_size, stack_size, reset, vector}
-use Rattle.vetting.specs.Judging.{read_program, ProgramRefused, ProgramAnswered}
+use Rattle.vetting.specs.Sheets.{Ended, Fine, FineBelow, FirstBad, FirstImproper, FirstTurned, ReadFrom, SheetRefused, proper}
+use Rattle.vetting.specs.Programs.{Program}
+use Rattle.vetting.specs.Verdicts.{Broken, TooDeep, Accepted, FirstBroken, InOrder, Refused, Answered, Free, Agree, program_of, rule_number, image_size}
+use Rattle.vetting.specs.Judging.{read_program, ProgramAnswered}
 
 one_longest : (g : Graph) (start d e : ℕ) → Longest g start d → Longest g start e → d ≡ e
 one_longest g start d e x y =
@@ -209,7 +209,7 @@ module _ (image sheet : List ℕ) where
   from_program o (Err Budget) x = absurd x
   from_program o (Err BurnBuffer) x = absurd x
 
-  pub answered : (s : Sheet) → InOrder image sheet → Read_from sheet s → (r : Result Depths Refusal) → ProgramAnswered (read_program image s) r → Answered image sheet r
+  pub answered : (s : Sheet) → InOrder image sheet → ReadFrom sheet s → (r : Result Depths Refusal) → ProgramAnswered (read_program image s) r → Answered image sheet r
   answered s o read r x =
       let same : read_program image s ≡ p = λ i. record { image = image; ranges = fun_ext read.ranges i; handlers = fun_ext read.handlers i } in
       from_program o r (subst (λ (q : Program). ProgramAnswered q r) same x)

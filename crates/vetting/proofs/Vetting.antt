@@ -1,6 +1,5 @@
 -- From the two walks to the verdict.
-use Rattle.std.proofs.Common.{◌≡◌, ℕ, ◌+◌, ◌<◌, ◌≤◌, Bool, true, false, cond, ltb, ◌⊎◌, List, [], map, length, get_or, Some, None, Option, sym, refl, ap, ◌∙◌, subst, inl, inr, arith}
-use mathlib.Core.Path.{fun_ext}
+use Rattle.std.proofs.Common.{◌≡◌, ℕ, ◌+◌, ◌<◌, ◌≤◌, Bool, true, false, ltb, List, map, length, get_or, Some, None, Option, sym, refl, ap, ◌∙◌, inl, inr, arith}
 use mathlib.Core.Bool.{false≢true}
 use lib.ListN.{length-map}
 use Rattle.std.proofs.lemmas.List.{get_or_past}
@@ -10,7 +9,7 @@ use Rattle.isa.specs.Words.{decoded}
 use Rattle.walk.specs.declared.flow.Flow.{Flow}
 use Rattle.walk.specs.declared.flow.Flow.TheVariants.{Nowhere}
 use Rattle.walk.specs.declared.search.Reach.{Reach}
-use Rattle.walk.specs.Walk.{Reaches, Longest, Deepest}
+use Rattle.walk.specs.Walk.{Deepest}
 use Rattle.walk.specs.Result.{Walked}
 use Rattle.vetting.specs.declared.depths.Depths.{Depths}
 use Rattle.vetting.specs.declared.rules.Rule.{Rule}
@@ -18,7 +17,7 @@ use Rattle.vetting.specs.declared.rules.Rule.TheVariants.{MainWord, MainReturn, 
 use Rattle.vetting.specs.declared.rules.Breach.{Breach}
 use Rattle.vetting.specs.Programs.{Program, instruction_in, instruction_at, flow_of, graph_of, main_breaks, handler_breaks, enables}
 use Rattle.vetting.specs.Verdicts.{Test, Breaks, Counted, Broken, TooDeep, Accepted, FirstBroken, main_test, handler_test, rule_number, stack_size, reset, vector}
-use Rattle.vetting.specs.Judging.{broken_in, Found, FirstFound, Judged, refusal_of, ProgramRefused, depths_of}
+use Rattle.vetting.specs.Judging.{Found, FirstFound, Judged, refusal_of, ProgramRefused, depths_of}
 use Rattle.vetting.proofs.Judge.{broken_breaks, breaks_broken, breaks_below}
 
 -- a table of 256 flows that is right below 256 is right everywhere

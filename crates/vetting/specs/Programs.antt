@@ -1,6 +1,5 @@
 -- A program: an image with its sheet. How its words lead on, and the rules that they may break.
-use Rattle.std.specs.Prelude.{◌≡◌, ℕ, Bool, true, false, not, ◌&&◌, ◌||◌, List, [], ◌∷◌, map, Some, None, Option, slice_index_or}
-use Rattle.isa.specs.declared.register.RegisterName.{RegisterName}
+use Rattle.std.specs.Prelude.{ℕ, Bool, true, false, not, ◌&&◌, ◌||◌, List, map, Some, None, Option, slice_index_or}
 use Rattle.isa.specs.declared.instruction.Operand.{Operand}
 use Rattle.isa.specs.declared.instruction.Operand.TheVariants.{Register, Constant}
 use Rattle.isa.specs.declared.instruction.AluOperation.{AluOperation}

@@ -79,7 +79,7 @@ abbrev pub handles : List ℕ → ℕ → Bool
 handles sheet r = any (gives r) sheet
 
 -- a sheet as it was read tells the ranges and the registers of its words
-pub record Read_from (words : List ℕ) (s : Sheet) : Type 0 where
+pub record ReadFrom (words : List ℕ) (s : Sheet) : Type 0 where
   pub ranges : (a : ℕ) → slice_index_or s.ranges a false ≡ in_ranges words a
   pub handlers : (r : ℕ) → slice_index_or s.handlers r false ≡ handles words r
 
@@ -103,5 +103,5 @@ SheetRefused words BurnBuffer = ⊥
 
 -- what reading a sheet answers
 abbrev pub SheetRead : List ℕ → Result Sheet Refusal → Type 0
-SheetRead words (Ok s) = Ended words × FineBelow words (length words) × Read_from words s
+SheetRead words (Ok s) = Ended words × FineBelow words (length words) × ReadFrom words s
 SheetRead words (Err r) = SheetRefused words r

@@ -21,7 +21,7 @@ pub fn instruction_at(image: &[u16], at: u8) -> Option<Instruction>
 // Whether the word at an address breaks a rule in a situation that is reached there.
 fn breaks_at<R: Rulebook>(image: &[u16], reach: &Reach, book: &R, rule: Rule, at: u8) -> bool
     requires { length image.now ≡ 256 }
-    ensures { result ≡ broken_in reach.now (λ b. breaks book.now rule (instruction_in image.now b)) at }
+    ensures { result ≡ broken_in reach.now (λ b. R.breaks book.now rule (instruction_in image.now b)) at }
 {
     let instruction = instruction_at(image, at);
     (reach.empty.contains(at) && book.is_broken(rule, instruction, false))
@@ -31,7 +31,7 @@ fn breaks_at<R: Rulebook>(image: &[u16], reach: &Reach, book: &R, rule: Rule, at
 // An address at which a rule is broken, if there is one.
 fn place<R: Rulebook>(image: &[u16], reach: &Reach, book: &R, rule: Rule) -> Option<u8>
     requires { length image.now ≡ 256 }
-    ensures { Found reach.now (λ b. breaks book.now rule (instruction_in image.now b)) result }
+    ensures { Found reach.now (λ b. R.breaks book.now rule (instruction_in image.now b)) result }
 {
     for i in 0..256u16 {
         if breaks_at(image, reach, book, rule, i as u8) {
@@ -44,7 +44,7 @@ fn place<R: Rulebook>(image: &[u16], reach: &Reach, book: &R, rule: Rule) -> Opt
 // The first rule by number that is broken, with an address, if one is.
 pub fn judge<R: Rulebook>(image: &[u16], reach: &Reach, book: &R) -> Option<Breach>
     requires { length image.now ≡ 256 }
-    ensures { Judged reach.now (λ rule a. breaks book.now rule (instruction_in image.now a)) result }
+    ensures { Judged reach.now (λ rule a. R.breaks book.now rule (instruction_in image.now a)) result }
 {
     let rules = [
         Rule::MainWord,

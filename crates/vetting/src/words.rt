@@ -1,5 +1,5 @@
 // What vetting asks of an instruction.
-ghost use Rattle.std.specs.Prelude.{◌≡◌, false, not, get_or, slice_index_or};
+ghost use Rattle.std.specs.Prelude.{◌≡◌, false, not, slice_index_or};
 ghost use Rattle.vetting.specs.Programs.{jump_flow, call_flow, flow_of, indirect, operand_names, operand_is, keeps_result, names, writes, stores_into, goes_through_register, stores_through_register, is_rts, is_rti, is_sti};
 
 use crate::sheet::Sheet;
@@ -57,7 +57,7 @@ fn is_indirect(operand: Operand) -> bool
 
 // Whether the operand is one of the handler's registers.
 fn operand_is_handlers(operand: Operand, sheet: &Sheet) -> bool
-    ensures { result ≡ operand_names (λ n. get_or sheet.now.handlers n false) operand }
+    ensures { result ≡ operand_names (λ n. slice_index_or sheet.now.handlers n false) operand }
 {
     match operand {
         Operand::Register(y) => sheet.handles(y),
@@ -67,7 +67,7 @@ fn operand_is_handlers(operand: Operand, sheet: &Sheet) -> bool
 
 // Whether the operand is a constant address in one of main's ranges.
 fn operand_is_guarded(operand: Operand, sheet: &Sheet) -> bool
-    ensures { result ≡ operand_is (λ a. get_or sheet.now.ranges a false) operand }
+    ensures { result ≡ operand_is (λ a. slice_index_or sheet.now.ranges a false) operand }
 {
     match operand {
         Operand::Register(_) => false,
@@ -77,7 +77,7 @@ fn operand_is_guarded(operand: Operand, sheet: &Sheet) -> bool
 
 // Whether an instruction names one of the handler's registers.
 pub fn names_handlers(instruction: Instruction, sheet: &Sheet) -> bool
-    ensures { result ≡ names (λ n. get_or sheet.now.handlers n false) instruction }
+    ensures { result ≡ names (λ n. slice_index_or sheet.now.handlers n false) instruction }
 {
     match instruction {
         Instruction::Alu(_, x, operand)
@@ -118,7 +118,7 @@ pub fn writes_mains(instruction: Instruction, sheet: &Sheet) -> bool
 
 // Whether an instruction stores to a constant address in one of main's ranges.
 pub fn stores_guarded(instruction: Instruction, sheet: &Sheet) -> bool
-    ensures { result ≡ stores_into (λ a. get_or sheet.now.ranges a false) instruction }
+    ensures { result ≡ stores_into (λ a. slice_index_or sheet.now.ranges a false) instruction }
 {
     match instruction {
         Instruction::Store(_, operand) => operand_is_guarded(operand, sheet),

@@ -1,4 +1,4 @@
-use Rattle.std.proofs.Common.{◌≡◌, ℕ, ◌<◌, true, List, [], ◌∷◌, get_or}
+use Rattle.std.proofs.Common.{◌≡◌, ℕ, ◌<◌, true, get_or}
 use Rattle.vetting.specs.declared.rules.Rule.TheVariants.{MainWord}
 use Rattle.vetting.specs.Judging.{broken_in}
 use Rattle.vetting.specs.Programs.{instruction_in}

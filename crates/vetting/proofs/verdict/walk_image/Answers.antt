@@ -5,4 +5,4 @@ use Rattle.walk.specs.Result.{Walked}
 use Rattle.vetting.proofs.verdict.walk_image.Goals as goal
 
 pub returns : goal.returns
-returns c = subst (λ (g : Graph). Walked g c.args.start 16 c.walk.result) (fun_ext c.flows-of.ensures) c.walk.ensures
+returns c = subst (λ (g : Graph). Walked g c.args.start 16 c.walk.result) (fun_ext c.flows_of.ensures) c.walk.ensures
