@@ -1,8 +1,8 @@
 -- Words collected token by token.
-use Rattle.std.proofs.Common.{◌≡◌, ℕ, ◌+◌, List, [], ◌∷◌, ◌++◌, map, length, Some, None, Option, sym, refl, ap, ◌∙◌, subst, append_assoc, append-nil, arith}
-use mathlib.Core.List.{map_append}
+use Rattle.std.proofs.Common.{◌≡◌, ℕ, ◌+◌, List, [], ◌∷◌, ◌++◌, map, length, Some, Option, sym, refl, ap, ◌∙◌, subst, append_assoc, append-nil, arith}
+use mathlib.Core.List.{map-append}
 use Rattle.files.specs.Texts.{Token, token_at, filled, line_tokens, tokens_from}
-use Rattle.files.specs.Reading.{AreWords, FirstFault, Faults}
+use Rattle.files.specs.Reading.{AreWords, Faults}
 use Rattle.files.specs.declared.fault.Digits.{Digits}
 use Rattle.files.specs.declared.fault.Fault.{Fault}
 use Rattle.files.specs.declared.fault.Fault.TheVariants.{Malformed, HalfWord, Memory}
@@ -10,7 +10,7 @@ use Rattle.files.specs.declared.fault.Fault.TheVariants.{Malformed, HalfWord, Me
 module _ {W : Type 0} (value : List ℕ → Option W) where
   are_words_append : (ts us : List Token) (ws vs : List W) → AreWords value ts ws → AreWords value us vs → AreWords value (ts ++ us) (ws ++ vs)
   are_words_append ts us ws vs p q =
-      map_append (λ (t : Token). value t.bytes) ts us ∙ ap (λ l. l ++ map (λ (t : Token). value t.bytes) us) p ∙ ap (λ l. map Some ws ++ l) q ∙ sym (map_append Some ws vs)
+      map-append (λ (t : Token). value t.bytes) ts us ∙ ap (λ l. l ++ map (λ (t : Token). value t.bytes) us) p ∙ ap (λ l. map Some ws ++ l) q ∙ sym (map-append Some ws vs)
 
   -- of the tokens ts those before left are read, and their words stand after `was` in `now`
   pub record Sofar (ts : List Token) (was now : List W) (left : List Token) : Type 0 where

@@ -1,8 +1,8 @@
 -- The pieces of a text and the part before a comment, from what is found at each index.
-use Rattle.std.proofs.Common.{◌≡◌, ℕ, zero, suc, ◌+◌, ◌<◌, ◌≤◌, Bool, true, false, cond, ◌&&◌, eqb, List, [], ◌∷◌, length, get_or, take, drop, sym, refl, ap, ◌∙◌, ⊎_elim, add-one, arith, length-drop, take_all, eq-eqb, eqb-true}
+use Rattle.std.proofs.Common.{◌≡◌, ℕ, zero, suc, ◌+◌, ◌<◌, ◌≤◌, Bool, true, false, ◌&&◌, eqb, List, [], ◌∷◌, length, get_or, take, drop, refl, ⊎_elim, add-one, arith, length-drop, take_all, eq-eqb, eqb-true}
 use Rattle.std.proofs.str.Laws.{order}
 use Rattle.std.proofs.lemmas.List.{drop_all, drop-drop, get_or_past}
-use Rattle.files.specs.Texts.{separates, pieces, longer, slashes, uncommented}
+use Rattle.files.specs.Texts.{separates, pieces, slashes, uncommented}
 use Rattle.files.specs.declared.pieces.Separator.{Separator}
 
 -- no separator stands before the index n

@@ -1,12 +1,12 @@
 -- A text that was written from words reads as these words.
-use Rattle.std.proofs.Common.{◌≡◌, ℕ, ◌+◌, ◌*◌, ◌/◌, ◌%◌, ◌^◌, ◌<◌, ◌≤◌, true, false, List, [], ◌∷◌, ◌++◌, map, length, Some, None, Ok, Err, vec_items, Option, Result, Vec, sym, refl, ap, ◌∙◌, subst, append_assoc, arith}
-use mathlib.Core.List.{map_append}
+use Rattle.std.proofs.Common.{◌≡◌, ℕ, ◌+◌, ◌*◌, ◌/◌, ◌%◌, ◌^◌, ◌<◌, ◌≤◌, true, false, List, [], ◌∷◌, ◌++◌, map, Some, None, Ok, Err, vec_items, Option, Result, Vec, sym, refl, ap, ◌∙◌, append_assoc, arith}
+use mathlib.Core.List.{map-append}
 use Rattle.std.proofs.lemmas.Bool.Decides.{nat_tests}
 use Rattle.std.specs.List.{flat_map, AllByRecursion}
 use Rattle.hexadecimal.specs.Hexadecimal.{digit_of, value_of, four_digits}
-use Rattle.files.specs.Formats.{eight_digits, line_of, Gives, ReadBack}
+use Rattle.files.specs.Formats.{eight_digits, line_of, ReadBack}
 use Rattle.files.specs.Reading.{AreWords, Reads}
-use Rattle.files.specs.Texts.{separates, longer, pieces, slashes, uncommented, filled, token_at, line_tokens, tokens_from, tokens, Token}
+use Rattle.files.specs.Texts.{separates, pieces, slashes, uncommented, filled, token_at, line_tokens, tokens_from, tokens, Token}
 use Rattle.files.specs.Words.{number_on, word_of}
 use Rattle.files.specs.declared.fault.Digits.{Digits}
 use Rattle.files.specs.declared.fault.Digits.TheVariants.{Four, Eight}
@@ -88,7 +88,7 @@ module _ {value : List ℕ → Option ℕ} {digits : ℕ → List ℕ} {limit : 
   reads_back width text (Err (Malformed line digits found)) (t, fault, at-line, of_width, as-shown) ws all is =
       let f : Token → Option ℕ = λ t. value t.bytes in
       let split : map f (tokens text) ≡ map f fault.before ++ None ∷ map f fault.after =
-      ap (map f) fault.cut ∙ map_append f fault.before (t ∷ fault.after) ∙ ap (λ o. map f fault.before ++ o ∷ map f fault.after) fault.bad in
+      ap (map f) fault.cut ∙ map-append f fault.before (t ∷ fault.after) ∙ ap (λ o. map f fault.before ++ o ∷ map f fault.after) fault.bad in
       absurd (no_none (map f fault.before) (map f fault.after) ws (sym split ∙ ap (λ l. map f (tokens l)) is ∙ lines_read 1 ws all))
   reads_back width text (Err (HalfWord n)) none ws all is = absurd none
   reads_back width text (Err Memory) read ws all is = refl

@@ -1,5 +1,5 @@
 -- What a reading of tokens answers.
-use Rattle.std.specs.Prelude.{◌≡◌, ℕ, List, [], ◌∷◌, ◌++◌, map, Some, None, Ok, Err, vec_items, string_bytes, Option, Result, Vec}
+use Rattle.std.specs.Prelude.{◌≡◌, ℕ, List, ◌∷◌, ◌++◌, map, Some, None, Ok, Err, vec_items, string_bytes, Option, Result, Vec}
 use Rattle.files.specs.Texts.{Token}
 use Rattle.files.specs.Wording.{shown_token}
 use Rattle.files.specs.declared.fault.Digits.{Digits}

@@ -11,15 +11,15 @@ pub loop-pair-preserved : goal.loop-pair-preserved
 loop-pair-preserved c =
     let step = c.in-Some.ensures.steps in
     let old = c.loop-pair.invariant in (
-      tt,
+      omega (arith, step.0, old.2),
       omega arith,
       step.0 ∙ old.2,
-      pairs_more _ _ _ c.in-Some.pair.now _ _ c.word.result old.3 step.1.0 (step.1.1 ∙ old.2) c.word.ensures c.in-ok-push.ensures.items,
+      pairs_more _ _ _ c.in-Some.pair.now _ _ c.word.result old.3 step.1.0 (step.1.1 ∙ old.2) c.word.ensures c.in_ok-push.ensures.items,
     )
 
-pub returns-in-err-push : goal.returns-in-err-push
-returns-in-err-push c =
-    let p = err_from_is_err_and c.from-residual.result c.from-residual.ensures.1 in
+pub returns-in_err-push : goal.returns-in_err-push
+returns-in_err-push c =
+    let p = err_from_is_err_and c.from_residual.result c.from_residual.ensures.1 in
     rw (p.1, p.2) (record { joins = tt; back = λ ws all is. refl })
 
 pub returns : goal.returns

@@ -1,8 +1,7 @@
 -- The bytes of the number, one after another.
-use Rattle.std.proofs.Common.{◌≡◌, ◌/◌, ◌%◌, false, ◌&&◌, leb, [], ◌∷◌, ◌++◌, string_bytes, codes, sym, refl, ap, ◌∙◌, subst, arith}
+use Rattle.std.proofs.Common.{◌≡◌, false, ◌&&◌, leb, [], ◌∷◌, string_bytes, codes, refl, arith}
 use Rattle.std.proofs.lemmas.Slice.{pushed}
 use Rattle.std.proofs.lemmas.Bool.Decides.{nat_tests}
-use Rattle.files.specs.Wording.{shown_byte}
 use Rattle.files.proofs.Messages.{shown_number, made_pushed}
 use Rattle.files.proofs.token.show_byte.Goals as goal
 use Rattle.files.proofs.token.show_byte.Goals.{else-byte-ge32-via-then-byte-ge32+else-byte-le126, else-byte-ge32-via-else-byte-ge32}
@@ -18,6 +17,6 @@ returns c =
     ] in
     let one = c.push-2.ensures.ascii c.digit.ensures.ascii in
     let two = c.push-3.ensures.ascii c.digit-2.ensures.ascii in
-    let first = pushed (codes "\\x") (refl {a = bs}) c.in-ok-push-str.was c.push-str.ensures.bytes in
-    let second = pushed (c.digit.result ∷ []) first c.in-ok-push.was (rw one at c.push-2.ensures.bytes) in
+    let first = pushed (codes "\\x") (refl {a = bs}) c.in_ok-push_str.was c.push_str.ensures.bytes in
+    let second = pushed (c.digit.result ∷ []) first c.in_ok-push.was (rw one at c.push-2.ensures.bytes) in
     made_pushed (c.digit-2.result ∷ []) c.push-3.result second (rw two at c.push-3.ensures.bytes) (shown_number bs b _ _ hidden c.digit.ensures.digit c.digit-2.ensures.digit)

@@ -7,4 +7,4 @@ use Rattle.files.proofs.message.FaultDisplay.fmt.Goals as goal
 
 pub returns-in-HalfWord-clause-writes : goal.returns-in-HalfWord-clause-writes
 returns-in-HalfWord-clause-writes g c plain ok =
-    subst (λ (x : Fault). HasWritten g.W.Write.write_str_gives c.args.f.now (message x) c.write-in-HalfWord.new.self) (sym c.in-HalfWord.is) (c.write-in-HalfWord.ensures.shows plain ok)
+    subst (λ (x : Fault). HasWritten g.W.Write.write_str_gives c.args.f.now (message x) c.write-in-HalfWord.new.self) (sym c.in-HalfWord.is) (c.write-in-HalfWord.ensures.writes plain ok)
