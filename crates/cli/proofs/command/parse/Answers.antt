@@ -1,17 +1,17 @@
-use Rattle.std.proofs.Common.{◌≡◌, string_bytes, sym, ◌∙◌}
+use Rattle.std.proofs.Common.{string_bytes, sym, ◌∙◌}
 use lib.ListN.{length-map}
 use Rattle.cli.proofs.Texts.{none_named, first_text}
 use Rattle.cli.proofs.command.parse.Goals as goal
 
-pub returns-in-default : goal.returns-in-default
-returns-in-default c = record { asked = none_named string_bytes c.args.arguments.now c.in-default.ensures.item.3; count = tt }
+pub returns-in_default : goal.returns-in_default
+returns-in_default c = record { asked = none_named string_bytes c.args.arguments.now c.in_default.ensures.item.3; count = tt }
 
-pub returns-in-default-named : goal.returns-in-default-named
-returns-in-default-named c =
+pub returns-in_default-named : goal.returns-in_default-named
+returns-in_default-named c =
     let item = c.in-Some.ensures.item in
     let first = first_text string_bytes c.args.arguments.now c.in-Some.first.now item.3.0 item.1 in
     record {
-      asked = λ command e. c.in-default-named.ensures command (c.as-str.ensures.value ∙ sym first ∙ e);
+      asked = λ command e. c.in_default-named.ensures command (c.as_str.ensures.value ∙ sym first ∙ e);
       count = tt;
     }
 
@@ -21,7 +21,7 @@ returns-then-arguments c =
     let first = first_text string_bytes c.args.arguments.now c.in-Some.first.now item.3.0 item.1 in
     record {
       asked = (
-        first ∙ sym c.as-str.ensures.value ∙ c.in-Some-named.ensures,
+        first ∙ sym c.as_str.ensures.value ∙ c.in-Some-named.ensures,
         λ e. c.if-arguments.true (sym (length-map c.args.arguments.now string_bytes) ∙ e ∙ sym c.arguments.ensures),
       );
       count = tt;
@@ -34,7 +34,7 @@ returns c =
     let count = c.if-arguments.false ∙ c.arguments.ensures in
     record {
       asked = (
-        first ∙ sym c.as-str.ensures.value ∙ c.in-Some-named.ensures,
+        first ∙ sym c.as_str.ensures.value ∙ c.in-Some-named.ensures,
         length-map c.args.arguments.now string_bytes ∙ count,
       );
       count = count;
