@@ -1,9 +1,5 @@
 -- What holds of a lawful bus over whole lists of events.
-use mathlib.Core.Path.{◌≡◌, refl, sym, ap, ◌∙◌}
-use mathlib.Core.Bool.{true, cond}
-use mathlib.Core.List.{List, [], ◌∷◌}
-use Prim.Native.Nat.{ℕ, ◌<◌}
-use lib.Dec.{eqb}
+use Rattle.std.proofs.Common.{◌≡◌, refl, sym, ap, ◌∙◌, true, cond, List, [], ◌∷◌, ℕ, ◌<◌, eqb}
 use Rattle.bus.specs.Meaning.{Meaning, Laws, Event, read, write, clock, drive, Quiet}
 use Rattle.bus.specs.Seen.{replay, seen, Alike, AllProper, last_written, ReadsLastWritten}
 

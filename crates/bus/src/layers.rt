@@ -25,14 +25,14 @@ impl<D, B> Layer<D, B> {
 }
 
 fn selects<D: Device>(base: u8, at: u8) -> bool
-    ensures { result ≡ selects bits base at }
+    ensures { result ≡ selects D.bits base at }
 {
     u16::from(at) >> D::bits() == u16::from(base) >> D::bits()
 }
 
 fn offset<D: Device>(at: u8) -> u8
-    ensures low { result ≡ at % 2 ^ bits }
-    ensures within { result < 2 ^ bits }
+    ensures low { result ≡ at % 2 ^ D.bits }
+    ensures within { result < 2 ^ D.bits }
 {
     (u16::from(at) % (1 << D::bits())) as u8
 }

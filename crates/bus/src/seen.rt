@@ -5,7 +5,7 @@ ghost use Rattle.std.specs.Prelude.{[], ◌≡◌};
 use crate::Bus;
 
 fn requests_now<B: Bus>(bus: &B) -> bool
-    ensures { result ≡ (seen meaning bus.now).requests [] }
+    ensures { result ≡ (seen B.meaning bus.now).requests [] }
 {
     bus.requests()
 }
@@ -13,10 +13,10 @@ fn requests_now<B: Bus>(bus: &B) -> bool
 // Whether the bus requests. From its condition on, it is a bus that is seen by its events, which keeps the laws
 // and shows the same; and whatever happens, its kept addresses read as they were last written.
 pub fn seen_by_events<B: Bus>(bus: &B) -> bool
-    ensures answer { result ≡ (seen meaning bus.now).requests [] }
-    ensures laws { Laws 256 (seen meaning bus.now) }
-    ensures alike { Alike meaning bus.now (seen meaning bus.now) [] }
-    ensures last { ReadsLastWritten 256 meaning bus.now }
+    ensures answer { result ≡ (seen B.meaning bus.now).requests [] }
+    ensures laws { Laws 256 (seen B.meaning bus.now) }
+    ensures alike { Alike B.meaning bus.now (seen B.meaning bus.now) [] }
+    ensures last { ReadsLastWritten 256 B.meaning bus.now }
 {
     requests_now(bus)
 }

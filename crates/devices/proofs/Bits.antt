@@ -1,12 +1,10 @@
 -- The rules of the buttons, bit by bit.
-use mathlib.Core.Path.{◌≡◌, refl, sym, ap, ap₂, ◌∙◌}
-use mathlib.Core.Bool.{true, false, not, cond, true≢false}
-use Prim.Native.Nat.{ℕ, zero, suc, ◌+◌, ◌-◌, ◌*◌, ◌/◌, ◌%◌, ◌^◌, ◌≤◌, ◌<◌}
-use native.Mathlib.Nat.{mod-lt, mod-eq_of_lt, zero-div, div-one, div-div-eq-div-mul, pow-succ'}
-use native.Mathlib.Omega.{arith}
-use lib.Arith.{bin_ind}
-use lib.Bits.{bit_and, bit_or, bit_xor, and_shr, or_shr, xor_shr, and_mod, or_mod, xor_mod, and_mask, and_zero_r, or_zero_r, and_le_l, and_le_r}
-use lib.Dec.{eqb, eqb-suc-zero}
+use Rattle.std.proofs.Common.{◌≡◌, refl, sym, ap, ap₂, ◌∙◌, true, false, not, cond, true≢false, ℕ, zero, suc, ◌+◌, ◌-◌, ◌*◌, ◌/◌, ◌%◌, ◌^◌, ◌≤◌, ◌<◌, eqb, arith}
+use Rattle.std.specs.Int.Bits.{bit_and, bit_or, bit_xor}
+use Rattle.std.proofs.Math.Nat.{mod-lt, mod-eq_of_lt, zero-div, div-one, div-div-eq-div-mul, pow-succ'}
+use Rattle.std.proofs.Math.Arith.{bin_ind}
+use Rattle.std.proofs.lemmas.Nat.{and_shr, or_shr, xor_shr, and_mod, or_mod, xor_mod, and_mask, and_zero_r, or_zero_r, and_le_l, and_le_r}
+use lib.Dec.{eqb-suc-zero}
 use Rattle.bus.specs.Meaning.{write, clock}
 use Rattle.devices.specs.declared.buttons.Buttons.{Buttons}
 use Rattle.devices.specs.Buttons.{bit, buttons, buttons_after, FlagsTellChanges, OnesClearFlags, RequestsForEnabledFlags}

@@ -7,4 +7,4 @@ returns g c =
     let m = g.B.Bus.meaning in
     let laws = laws_of g.met.B.Bus in
     let s = c.args.bus.now in
-    record { answer = c.requests-now.ensures; laws = seen_laws 256 m laws s; alike = seen_alike m s; last = reads_last_written 256 m laws s }
+    record { answer = c.requests_now.ensures; laws = seen_laws 256 m laws s; alike = seen_alike m s; last = reads_last_written 256 m laws s }
