@@ -1,13 +1,11 @@
 -- The rules of the buttons, bit by bit.
-use Rattle.std.proofs.Common.{◌≡◌, refl, sym, ap, ap₂, ◌∙◌, true, false, not, cond, true≢false, ℕ, zero, suc, ◌+◌, ◌-◌, ◌*◌, ◌/◌, ◌%◌, ◌^◌, ◌≤◌, ◌<◌, eqb, arith}
-use Rattle.std.specs.Int.Bits.{bit_and, bit_or, bit_xor}
+use Rattle.std.proofs.Common.{◌≡◌, refl, sym, ap, ap₂, ◌∙◌, true, not, cond, true≢false, ℕ, zero, suc, ◌+◌, ◌-◌, ◌/◌, ◌%◌, ◌^◌, ◌≤◌, ◌<◌, eqb, arith}
+use Rattle.std.specs.Int.Bits.{bit_and, bit_or, bit_xor, and_zero_r, or_zero_r}
 use Rattle.std.proofs.Math.Nat.{mod-lt, mod-eq_of_lt, zero-div, div-one, div-div-eq-div-mul, pow-succ'}
 use Rattle.std.proofs.Math.Arith.{bin_ind}
-use Rattle.std.proofs.lemmas.Nat.{and_shr, or_shr, xor_shr, and_mod, or_mod, xor_mod, and_mask, and_zero_r, or_zero_r, and_le_l, and_le_r}
-use lib.Dec.{eqb-suc-zero}
-use Rattle.bus.specs.Meaning.{write, clock}
-use Rattle.devices.specs.declared.buttons.Buttons.{Buttons}
-use Rattle.devices.specs.Buttons.{bit, buttons, buttons_after, FlagsTellChanges, OnesClearFlags, RequestsForEnabledFlags}
+use Rattle.std.proofs.lemmas.Nat.{and_shr, or_shr, xor_shr, and_mod, or_mod, xor_mod, and_mask, and_le_l, and_le_r}
+use Rattle.std.proofs.Math.Dec.{eqb-suc-zero}
+use Rattle.devices.specs.Buttons.{bit, buttons, FlagsTellChanges, OnesClearFlags, RequestsForEnabledFlags}
 
 -- a bit is 0 or 1
 bit_lt : (i n : ℕ) → bit i n < 2
