@@ -1,6 +1,5 @@
 -- Every step keeps to the laws.
-use Rattle.std.proofs.Common.{◌≡◌, ℕ, ◌+◌, ◌%◌, ◌<◌, Bool, true, false, cond, List, length, get_or, set, Some, None, Option, sym, refl, ap, ◌∙◌, subst, arith, length-set, get_or-set_same}
-use Rattle.isa.specs.declared.instruction.Operand.{Operand}
+use Rattle.std.proofs.Common.{◌≡◌, ℕ, Bool, true, false, cond, List, length, Some, None, Option, sym, refl, ap, ◌∙◌, subst, arith, length-set, get_or-set_same}
 use Rattle.isa.specs.declared.instruction.Instruction.{Instruction}
 use Rattle.isa.specs.declared.instruction.Instruction.TheVariants.{Alu, Move, Load, Store, Jump, Call, Return, ReturnFromInterrupt, DisableInterrupts, EnableInterrupts, Swap, Shift}
 use Rattle.isa.specs.declared.register.RegisterName.{RegisterName}
@@ -13,7 +12,7 @@ use Rattle.machine.specs.declared.pointer.StackPointer.{StackPointer}
 use Rattle.machine.specs.declared.processor.Processor.{Processor}
 use Rattle.machine.specs.declared.processor.Saved.{Saved}
 use Rattle.machine.specs.Processors.{lowered, saved, no_flags, register_of, value_of, next, top, pushed}
-use Rattle.machine.specs.Instructions.{Station, Ran, with_outcome, called, returned, returned_from_interrupt, ran}
+use Rattle.machine.specs.Instructions.{Station, Ran, with_outcome, called, ran}
 use Rattle.machine.specs.Steps.{interrupted, word_run, accepts, accepted, stepped, clocked}
 use Rattle.machine.specs.Laws.{loads_pc, StackAsLeft, ComesBack, GivesBack, fetched, word_left, LawfulStep}
 use Rattle.machine.specs.Parts.{Stacking, stays, pushes, pops, stacking, stack_after, does}

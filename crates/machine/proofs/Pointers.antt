@@ -1,5 +1,5 @@
 -- Stack pointers by their places.
-use Rattle.std.proofs.Common.{◌≡◌, ℕ, ◌+◌, ◌%◌, ◌<◌, ap, subst, arith}
+use Rattle.std.proofs.Common.{◌≡◌, ℕ, ◌%◌, ◌<◌, ap, subst, arith}
 use native.Mathlib.Bridge.{le_prop}
 use Rattle.machine.specs.declared.pointer.StackPointer.{StackPointer}
 use Rattle.machine.specs.Processors.{pointer, raised, lowered}

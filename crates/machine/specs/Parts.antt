@@ -3,7 +3,7 @@
 use Rattle.std.specs.Prelude.{◌≡◌, ℕ, Bool, true, false, cond, List, Some, None, Option, slice_set}
 use Rattle.isa.specs.declared.register.RegisterName.{RegisterName}
 use Rattle.isa.specs.declared.instruction.Operand.{Operand}
-use Rattle.isa.specs.declared.instruction.Operand.TheVariants.{Register, Constant}
+use Rattle.isa.specs.declared.instruction.Operand.TheVariants.{Constant}
 use Rattle.isa.specs.declared.instruction.AluOperation.{AluOperation}
 use Rattle.isa.specs.declared.instruction.AluOperation.TheVariants.{Add, Adc, Sub, Sbc, And, Or, Xor, Tst, Cmp}
 use Rattle.isa.specs.declared.instruction.Condition.{Condition}

@@ -1,5 +1,5 @@
 -- The processor's parts, each read or changed alone.
-use Rattle.std.specs.Prelude.{ℕ, ◌+◌, ◌%◌, true, false, List, replicate, slice_index, slice_index_or, slice_set}
+use Rattle.std.specs.Prelude.{ℕ, ◌+◌, ◌%◌, false, List, replicate, slice_index, slice_index_or, slice_set}
 use Rattle.std.proofs.Common.{mod-lt, lit<}
 use Rattle.isa.specs.declared.register.RegisterName.{RegisterName}
 use Rattle.isa.specs.declared.instruction.Operand.{Operand}

@@ -175,9 +175,9 @@ impl Processor {
 
     // A register becomes the byte read at an address.
     fn load<B: Bus>(&mut self, x: RegisterName, at: u8, bus: &mut B) -> Access
-        ensures processor { self.new ≡ (loaded meaning x at self.old bus.old).station.processor }
-        ensures bus { bus.new ≡ (loaded meaning x at self.old bus.old).station.bus }
-        ensures access { Some result ≡ (loaded meaning x at self.old bus.old).access }
+        ensures processor { self.new ≡ (loaded B.meaning x at self.old bus.old).station.processor }
+        ensures bus { bus.new ≡ (loaded B.meaning x at self.old bus.old).station.bus }
+        ensures access { Some result ≡ (loaded B.meaning x at self.old bus.old).access }
     {
         let byte = bus.read(at);
         self.receive(x, byte);
@@ -186,9 +186,9 @@ impl Processor {
 
     // A byte is written to an address.
     fn store<B: Bus>(&mut self, byte: u8, at: u8, bus: &mut B) -> Access
-        ensures processor { self.new ≡ (stored meaning byte at self.old bus.old).station.processor }
-        ensures bus { bus.new ≡ (stored meaning byte at self.old bus.old).station.bus }
-        ensures access { Some result ≡ (stored meaning byte at self.old bus.old).access }
+        ensures processor { self.new ≡ (stored B.meaning byte at self.old bus.old).station.processor }
+        ensures bus { bus.new ≡ (stored B.meaning byte at self.old bus.old).station.bus }
+        ensures access { Some result ≡ (stored B.meaning byte at self.old bus.old).access }
     {
         bus.write(at, byte);
         self.go_on();
@@ -197,9 +197,9 @@ impl Processor {
 
     // One instruction, with the access that it makes.
     fn execute<B: Bus>(&mut self, instruction: Instruction, bus: &mut B) -> Option<Access>
-        ensures processor { self.new ≡ (executed meaning instruction self.old bus.old).station.processor }
-        ensures bus { bus.new ≡ (executed meaning instruction self.old bus.old).station.bus }
-        ensures access { result ≡ (executed meaning instruction self.old bus.old).access }
+        ensures processor { self.new ≡ (executed B.meaning instruction self.old bus.old).station.processor }
+        ensures bus { bus.new ≡ (executed B.meaning instruction self.old bus.old).station.bus }
+        ensures access { result ≡ (executed B.meaning instruction self.old bus.old).access }
     {
         match instruction {
             Instruction::Load(x, operand) => return Some(self.load(x, self.address(operand), bus)),
@@ -228,9 +228,9 @@ impl Processor {
         instruction: Option<Instruction>,
         bus: &mut B,
     ) -> Option<Access>
-        ensures processor { self.new ≡ (ran meaning instruction self.old bus.old).station.processor }
-        ensures bus { bus.new ≡ (ran meaning instruction self.old bus.old).station.bus }
-        ensures access { result ≡ (ran meaning instruction self.old bus.old).access }
+        ensures processor { self.new ≡ (ran B.meaning instruction self.old bus.old).station.processor }
+        ensures bus { bus.new ≡ (ran B.meaning instruction self.old bus.old).station.bus }
+        ensures access { result ≡ (ran B.meaning instruction self.old bus.old).access }
     {
         match instruction {
             Some(instruction) => self.execute(instruction, bus),

@@ -35,9 +35,9 @@ fn fetch(image: &[u16; 256], at: u8) -> Option<Instruction>
 // The bus gets three clocks; the word at PC is executed; if IE is now 1 and the bus requests, the bus gets one clock more
 // and the processor is interrupted.
 fn three_parts<B: Bus>(image: &[u16; 256], processor: &mut Processor, bus: &mut B) -> StepRecord
-    ensures processor { processor.new ≡ (stepped meaning image.now (station processor.old bus.old)).station.processor }
-    ensures bus { bus.new ≡ (stepped meaning image.now (station processor.old bus.old)).station.bus }
-    ensures answer { result ≡ (stepped meaning image.now (station processor.old bus.old)).answer }
+    ensures processor { processor.new ≡ (stepped B.meaning image.now (station processor.old bus.old)).station.processor }
+    ensures bus { bus.new ≡ (stepped B.meaning image.now (station processor.old bus.old)).station.bus }
+    ensures answer { result ≡ (stepped B.meaning image.now (station processor.old bus.old)).answer }
 {
     bus.clock();
     bus.clock();
@@ -60,11 +60,11 @@ fn three_parts<B: Bus>(image: &[u16; 256], processor: &mut Processor, bus: &mut 
 
 // One step. Besides what it does, the laws that every step keeps to, and the word that it ran in four parts.
 pub fn step<B: Bus>(image: &[u16; 256], processor: &mut Processor, bus: &mut B) -> StepRecord
-    ensures processor { processor.new ≡ (stepped meaning image.now (station processor.old bus.old)).station.processor }
-    ensures bus { bus.new ≡ (stepped meaning image.now (station processor.old bus.old)).station.bus }
-    ensures answer { result ≡ (stepped meaning image.now (station processor.old bus.old)).answer }
-    ensures lawful { LawfulStep meaning image.now (station processor.old bus.old) processor.new result }
-    ensures parts { WordInParts meaning image.now (station processor.old bus.old) }
+    ensures processor { processor.new ≡ (stepped B.meaning image.now (station processor.old bus.old)).station.processor }
+    ensures bus { bus.new ≡ (stepped B.meaning image.now (station processor.old bus.old)).station.bus }
+    ensures answer { result ≡ (stepped B.meaning image.now (station processor.old bus.old)).answer }
+    ensures lawful { LawfulStep B.meaning image.now (station processor.old bus.old) processor.new result }
+    ensures parts { WordInParts B.meaning image.now (station processor.old bus.old) }
 {
     three_parts(image, processor, bus)
 }

@@ -10,11 +10,11 @@ returns g c =
     let image = c.args.image.now in
     let p = c.args.processor.now in
     let s = c.args.bus.now in
-    let did = c.three-parts.ensures in
+    let did = c.three_parts.ensures in
     record {
       processor = did.processor;
       bus = did.bus;
       answer = did.answer;
-      lawful = lawful_at m image (station p s) _ c.three-parts.result did.processor did.answer;
+      lawful = lawful_at m image (station p s) _ c.three_parts.result did.processor did.answer;
       parts = by_parts m (instruction_in image p.pc) p (clocked m s);
     }
