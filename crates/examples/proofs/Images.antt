@@ -1,17 +1,17 @@
 -- The three images. In each of them main reaches address 0 only.
-use Rattle.std.proofs.Common.{◌≡◌, ℕ, zero, suc, ◌+◌, ◌<◌, ◌≤◌, Bool, true, false, ◌⊎◌, List, [], ◌∷◌, length, get_or, Some, None, Ok, Err, Result, sym, refl, ap, ◌∙◌, subst, inl, inr, zero-le, arith}
+use Rattle.std.proofs.Common.{◌≡◌, ℕ, zero, suc, ◌<◌, Bool, true, false, List, [], ◌∷◌, length, Ok, Err, Result, sym, refl, ap, ◌∙◌, inl, inr, zero-le, arith}
 use mathlib.Core.Bool.{false≢true}
 use Rattle.refusal.specs.declared.refusal.Refusal.{Refusal}
 use Rattle.refusal.specs.declared.refusal.Refusal.TheVariants.{ImageSize, SheetEnd, SheetWord, SheetRange, MainWord as main-word, MainReturn as main-return, MainRegister as main-register, HandlerWord as handler-word, HandlerReturn as handler-return, HandlerWrite as handler-write, Depth, Register, Port, Budget, BurnBuffer}
 use Rattle.refusal.specs.Refusals.{number_of}
 use Rattle.walk.specs.declared.flow.Flow.TheVariants.{Jump, Call, Return}
-use Rattle.walk.specs.Walk.{Leads, Reaches, Longest}
+use Rattle.walk.specs.Walk.{Leads, Reaches}
 use Rattle.vetting.specs.declared.depths.Depths.{Depths}
 use Rattle.vetting.specs.declared.rules.Rule.{Rule}
 use Rattle.vetting.specs.declared.rules.Rule.TheVariants.{MainWord, MainReturn, MainRegister, HandlerWord, HandlerReturn, HandlerWrite}
 use Rattle.vetting.specs.Sheets.{Ended, FineBelow}
 use Rattle.vetting.specs.Programs.{Program, graph_of, instruction_at, enables}
-use Rattle.vetting.specs.Verdicts.{Breaks, Counted, Broken, Accepted, FirstBroken, InOrder, Refused, Answered, Agree, program_of, main_test, is_filled, rule_number, reset}
+use Rattle.vetting.specs.Verdicts.{Breaks, Counted, Broken, InOrder, Refused, Answered, program_of, main_test, is_filled, rule_number, reset}
 use Rattle.vetting.proofs.Unique.{one_answer}
 use Rattle.examples.specs.Worked.{with_first, lone_end, no_depth, SoleAnswer, WorkedAnswer}
 

@@ -1,13 +1,12 @@
 -- The words of the examples.
-use Rattle.std.proofs.Common.{◌≡◌, ℕ, List, Some, None, codes, sym, refl, ap, ◌∙◌, arith}
+use Rattle.std.proofs.Common.{◌≡◌, ℕ, Some, None, codes, sym, refl, ap, ◌∙◌, arith}
 use Rattle.std.specs.Fmt.{digits}
 use Rattle.isa.specs.declared.instruction.AluOperation.TheVariants.{Add}
 use Rattle.isa.specs.declared.instruction.ShiftOperation.TheVariants.{Rol}
 use Rattle.isa.specs.declared.instruction.Operand.TheVariants.{Register, Constant}
 use Rattle.isa.specs.declared.instruction.Instruction.{Instruction}
 use Rattle.isa.specs.declared.instruction.Instruction.TheVariants.{Alu, Load, Store, Shift}
-use Rattle.isa.specs.Words.{register, decoded, encoded}
-use Rattle.isa.specs.Laws.{HasWord}
+use Rattle.isa.specs.Words.{register, decoded}
 use Rattle.isa.proofs.Back.{read_back}
 use Rattle.examples.specs.Worked.{Written, Undefined}
 
