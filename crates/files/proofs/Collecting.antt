@@ -1,6 +1,6 @@
 -- Words collected token by token.
 use Rattle.std.proofs.Common.{◌≡◌, ℕ, ◌+◌, List, [], ◌∷◌, ◌++◌, map, length, Some, Option, sym, refl, ap, ◌∙◌, subst, append_assoc, append-nil, arith}
-use mathlib.Core.List.{map-append}
+use Rattle.std.proofs.lemmas.List.{map-append}
 use Rattle.files.specs.Texts.{Token, token_at, filled, line_tokens, tokens_from}
 use Rattle.files.specs.Reading.{AreWords, Faults}
 use Rattle.files.specs.declared.fault.Digits.{Digits}

@@ -1,5 +1,5 @@
 -- The text that lists an image: a line for each address, and one for the run of equal words at the end.
-use Rattle.std.specs.Prelude.{◌≡◌, ℕ, suc, ◌+◌, ◌<◌, ◌≤◌, Bool, true, cond, ◌&&◌, ◌≢◌, List, [], ◌∷◌, ◌++◌, length, take, Some, None, codes, ◌==◌, nat_lt, slice_index}
+use Rattle.std.specs.Prelude.{◌≡◌, ℕ, ◌+◌, ◌<◌, ◌≤◌, Bool, true, cond, ◌&&◌, ◌≢◌, List, [], ◌∷◌, ◌++◌, length, take, Some, None, codes, ◌==◌, nat_lt, slice_index}
 use Rattle.hexadecimal.specs.Hexadecimal.{two_digits, four_digits}
 use Rattle.isa.specs.Assembly.{with_space, text_of}
 use Rattle.isa.specs.Words.{decoded}

@@ -6,8 +6,7 @@ ghost use Rattle.listing.specs.Lines.{ended, lines_from, last_line, run_start, l
 
 use crate::line::{Line, Run};
 use refusal::Refusal;
-use std::alloc::Global;
-use std::fmt;
+use std::alloc::{AllocError, Global};
 
 // Why there is no listing: the image is refused, or memory is wanting.
 #[derive(Clone, Copy)]
@@ -31,7 +30,7 @@ fn run_start(image: &[u16]) -> usize
 }
 
 // Adds a line for each of the words, which stand from address 0 on.
-fn write_lines(text: &mut String, words: &[u16]) -> fmt::Result
+fn write_lines(text: &mut String, words: &[u16]) -> Result<(), AllocError>
     requires { length words.now ≤ 256 }
     ensures { OnOk result (string_bytes text.new ≡ string_bytes text.old ++ lines_from 0 words.now) }
 {
@@ -46,7 +45,7 @@ fn write_lines(text: &mut String, words: &[u16]) -> fmt::Result
 }
 
 // Adds the last line, of the words from `start` on.
-fn write_last(text: &mut String, start: u8, word: u16) -> fmt::Result
+fn write_last(text: &mut String, start: u8, word: u16) -> Result<(), AllocError>
     ensures { OnOk result (string_bytes text.new ≡ string_bytes text.old ++ ended (last_line start word)) }
 {
     if start < 0xFF {
@@ -57,7 +56,7 @@ fn write_last(text: &mut String, start: u8, word: u16) -> fmt::Result
 }
 
 // Adds the listing of an image.
-fn write_listing(text: &mut String, image: &[u16]) -> fmt::Result
+fn write_listing(text: &mut String, image: &[u16]) -> Result<(), AllocError>
     requires { length image.now ≡ 256 }
     ensures bytes { OnOk result (string_bytes text.new ≡ string_bytes text.old ++ listing_of image.now) }
     ensures run { LastRun image.now (run_start image.now) }

@@ -1,5 +1,5 @@
 use Rattle.std.proofs.Common.{string_bytes, sym, ◌∙◌}
-use lib.ListN.{length-map}
+use Rattle.std.proofs.lemmas.List.{length-map}
 use Rattle.cli.proofs.Texts.{none_named, first_text}
 use Rattle.cli.proofs.command.parse.Goals as goal
 

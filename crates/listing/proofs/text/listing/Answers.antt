@@ -8,7 +8,7 @@ pub returns-in-Ok : goal.returns-in-Ok
 returns-in-Ok c =
     let wrote = c.in-Ok.ensures in
     let image = c.args.image.now in
-    let whole : string_bytes c.write-listing.new.text ≡ listing_of image = wrote.bytes ∙ ap (λ (l : List ℕ). l ++ listing_of image) c.new-text.ensures.bytes in
+    let whole : string_bytes c.write_listing.new.text ≡ listing_of image = wrote.bytes ∙ ap (λ (l : List ℕ). l ++ listing_of image) c.new-text.ensures.bytes in
     let inside = wrote.run.inside in
     let within : run_start image ≤ length image = omega arith in
     record { size = search rules; whole = whole; run = wrote.run; lines = ap line_count whole ∙ counted image within }

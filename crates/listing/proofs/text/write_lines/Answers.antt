@@ -1,4 +1,4 @@
-use Rattle.std.proofs.Common.{◌≡◌, ℕ, ◌+◌, ◌<◌, ◌≤◌, List, ◌++◌, length, get_or, drop, sym, refl, ap, ◌∙◌, append_assoc, append-nil}
+use Rattle.std.proofs.Common.{◌≡◌, ℕ, ◌+◌, ◌<◌, ◌≤◌, List, ◌++◌, length, get_or, drop, sym, ap, ◌∙◌, append_assoc, append-nil}
 use Rattle.std.proofs.lemmas.List.{at_drop_more, at_drop_all}
 use Rattle.listing.specs.Lines.{line_of, ended, lines_from}
 use Rattle.listing.proofs.text.write_lines.Goals as goal
@@ -12,7 +12,7 @@ all_done : (t e ws : List ℕ) (at : ℕ) → length ws ≤ at → t ++ lines_fr
 all_done t e ws at h whole = sym (append-nil t) ∙ ap (λ (l : List ℕ). t ++ l) (sym (at_drop_all (lines_from at) ws at h)) ∙ whole
 
 pub loop-at-preserved : goal.loop-at-preserved
-loop-at-preserved c = one_more _ _ _ c.args.words.now c.loop-at.at c.loop-at-test.true c.in-ok-writeln.ensures.bytes c.loop-at.invariant
+loop-at-preserved c = one_more _ _ _ c.args.words.now c.loop-at.at c.loop-at-test.true c.in_ok-writeln.ensures.bytes c.loop-at.invariant
 
 pub returns : goal.returns
 returns c = all_done _ _ c.args.words.now c.loop-at.at c.loop-at-test.false c.loop-at.invariant

@@ -1,5 +1,5 @@
 -- What is written, with the lines that are left, is the whole.
-use Rattle.std.proofs.Common.{◌≡◌, ℕ, ◌+◌, ◌<◌, ◌≤◌, ◌++◌, drop, string_bytes}
+use Rattle.std.proofs.Common.{◌≡◌, ◌++◌, drop, string_bytes}
 use Rattle.listing.specs.Lines.{lines_from}
 use Rattle.listing.proofs.text.write_lines.Given as goal
 

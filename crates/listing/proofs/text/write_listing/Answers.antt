@@ -1,6 +1,6 @@
 -- The lines before the run and the line of the run make the listing.
 use Rattle.std.proofs.Common.{◌≡◌, ℕ, ◌-◌, List, ◌++◌, get_or, take, IfOk, Ok, Err, string_bytes, Result, sym, ap, ◌∙◌, subst, append_assoc, rules}
-use native.Mathlib.Nat.{sub-zero}
+use Rattle.std.proofs.Math.Nat.{sub-zero}
 use Rattle.listing.specs.Lines.{ended, lines_from, last_line, run_start, listing_of, LastRun}
 use Rattle.listing.proofs.Runs.{run_start_is}
 use Rattle.listing.proofs.text.write_listing.Goals as goal
@@ -16,17 +16,17 @@ written (Err y) before between after image start place front last = tt
 
 pub returns : goal.returns
 returns c =
-    let place = run_start_is _ _ c.run-start-start.ensures in
+    let place = run_start_is _ _ c.run_start-start.ensures in
     record {
       bytes =
-          written c.write-last.result (string_bytes c.args.text.now) (string_bytes c.write-lines.new.text) (string_bytes c.write-last.new.text) c.args.image.now c.run-start-start.result place
-          c.in-ok-write-lines.ensures
-          c.write-last.ensures;
-      run = subst (LastRun c.args.image.now) (sym place) c.run-start-start.ensures;
+          written c.write_last.result (string_bytes c.args.text.now) (string_bytes c.write_lines.new.text) (string_bytes c.write_last.new.text) c.args.image.now c.run_start-start.result place
+          c.in_ok-write_lines.ensures
+          c.write_last.ensures;
+      run = subst (LastRun c.args.image.now) (sym place) c.run_start-start.ensures;
     }
 
-pub returns-in-err-write-lines : goal.returns-in-err-write-lines
-returns-in-err-write-lines c = record {
+pub returns-in_err-write_lines : goal.returns-in_err-write_lines
+returns-in_err-write_lines c = record {
   bytes = search rules;
-  run = subst (LastRun c.args.image.now) (sym (run_start_is _ _ c.run-start-start.ensures)) c.run-start-start.ensures;
+  run = subst (LastRun c.args.image.now) (sym (run_start_is _ _ c.run_start-start.ensures)) c.run_start-start.ensures;
 }
