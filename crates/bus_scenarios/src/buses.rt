@@ -1,5 +1,5 @@
 // Devices, layers of them, and the bus of a desk.
-use bus::{Bus, Device, Empty, Layer};
+use bus::{Bus, Empty, Layer};
 use devices::{Buttons, Input, Memory, Output, desk};
 
 #[derive(Drop)]
