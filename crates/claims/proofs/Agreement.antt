@@ -1,12 +1,12 @@
 -- What two stations that main sees alike have in common.
-use Rattle.std.proofs.Common.{◌≡◌, ℕ, ◌<◌, Bool, true, false, cond, ◌&&◌, List, [], ◌∷◌, length, get_or, sym, refl, ap, ◌∙◌, subst}
+use Rattle.std.proofs.Common.{◌≡◌, ℕ, ◌<◌, Bool, true, false, cond, List, length, get_or, sym, ap, ◌∙◌}
 use Rattle.bus.specs.Meaning.{Meaning}
 use Rattle.machine.specs.declared.pointer.StackPointer.{StackPointer}
 use Rattle.machine.specs.declared.processor.Saved.{Saved}
 use Rattle.machine.specs.Instructions.{Station}
 use Rattle.vetting.specs.Programs.{Program}
 use Rattle.claims.specs.Interrupts.{guarded, no_word}
-use Rattle.claims.proofs.Lists.{mask, getD_mask, words, words_at, Holds}
+use Rattle.claims.proofs.Lists.{getD_mask, words, words_at, Holds}
 use Rattle.claims.proofs.Views.{View}
 use Rattle.claims.proofs.Buses.{Kinds}
 use Rattle.claims.proofs.Stations.{view_of}

@@ -1,5 +1,5 @@
 -- What a lawful bus keeps of the guarded cells.
-use Rattle.std.proofs.Common.{◌≡◌, ℕ, ◌<◌, Bool, true, false, cond, not, ◌&&◌, eqb, ltb, List, sym, refl, ap, ◌∙◌, mod-lt, arith, lit<, ltb-true, ne_eqb}
+use Rattle.std.proofs.Common.{◌≡◌, ℕ, ◌<◌, Bool, true, false, cond, ◌&&◌, ltb, List, sym, refl, ap, ◌∙◌, mod-lt, arith, lit<, ltb-true, ne_eqb}
 use mathlib.Core.Path.{fun_ext}
 use Rattle.bus.specs.Meaning as Bus
 use Rattle.bus.specs.Meaning.{Event, clock, Meaning, Laws}
@@ -8,7 +8,7 @@ use Rattle.machine.specs.Steps.{clocked}
 use Rattle.machine.specs.Parts.{Request, nothing, read, write, answer, after_request, Use, none, load, store, request}
 use Rattle.vetting.specs.Programs.{Program}
 use Rattle.claims.specs.Interrupts.{guarded}
-use Rattle.claims.proofs.Views.{opens, known, stored, answered, Harmless}
+use Rattle.claims.proofs.Views.{stored, answered, Harmless}
 
 pub and_left : (a b : Bool) → (a && b) ≡ true → a ≡ true
 and_left true b e = refl

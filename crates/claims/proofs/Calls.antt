@@ -1,12 +1,12 @@
 -- What stays true of a station stays so through every call of its session.
-use Rattle.std.proofs.Common.{◌≡◌, ℕ, ◌<◌, Bool, true, false, cond, List, [], ◌∷◌, sym, refl, ap, ◌∙◌}
+use Rattle.std.proofs.Common.{ℕ, ◌<◌, Bool, true, false, cond, List, [], ◌∷◌}
 use Rattle.bus.specs.Meaning as Bus
 use Rattle.bus.specs.Meaning.{Meaning, Laws}
 use Rattle.machine.specs.Instructions.{Station}
 use Rattle.vetting.specs.declared.depths.Depths.{Depths}
 use Rattle.vetting.specs.Programs.{Program}
 use Rattle.claims.specs.Moments.{Moment}
-use Rattle.claims.specs.Calls.{Place, register, cell, counter, top, flag, Call, step, go, halt, advance, mark, unmark, drive, peek, Mode, halted, going, Fits, leads_to, Allowed, Session, advance_steps, touched, after_call, past_after_call, after_calls, past_after_calls}
+use Rattle.claims.specs.Calls.{register, cell, counter, top, flag, Call, step, go, halt, advance, mark, unmark, drive, peek, Mode, halted, going, Fits, leads_to, Allowed, Session, advance_steps, touched, after_call, past_after_call, after_calls, past_after_calls}
 use Rattle.claims.proofs.Rulebooks.{KeptBy}
 use Rattle.claims.proofs.Views.{View}
 use Rattle.claims.proofs.Runs.{Kept, steps_keep, touched_keeps}

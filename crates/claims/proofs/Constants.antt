@@ -5,7 +5,7 @@ use Rattle.isa.specs.declared.instruction.Operand.{Operand}
 use Rattle.isa.specs.declared.instruction.Operand.TheVariants.{Register, Constant}
 use Rattle.isa.specs.declared.instruction.Instruction.{Instruction}
 use Rattle.isa.specs.declared.instruction.Instruction.TheVariants.{Alu, Move, Load, Store, Jump, Call, Return, ReturnFromInterrupt, DisableInterrupts, EnableInterrupts, Swap, Shift}
-use Rattle.isa.specs.Words.{pick, register, operand_form, jump_form, shift_form, register_form, flow_form, word_form, decoded}
+use Rattle.isa.specs.Words.{pick, register, operand_form, jump_form, shift_form, flow_form, word_form, decoded}
 
 abbrev pub Small : Operand → Type 0
 Small (Register y) = Unit {0}

@@ -1,5 +1,5 @@
 -- Each call leads on from the station at hand, and the claims hold over all that has run on it.
-use Rattle.std.proofs.Common.{◌≡◌, ℕ, List, [], ◌∷◌, ◌++◌, sym, refl, ap, ◌∙◌, subst, ap₂}
+use Rattle.std.proofs.Common.{◌≡◌, ℕ, List, [], ◌∷◌, ◌++◌, sym, refl, ap, ◌∙◌, subst}
 use Rattle.bus.specs.Meaning.{Event, Meaning, Laws}
 use Rattle.machine.specs.declared.access.StepRecord.{StepRecord}
 use Rattle.machine.specs.Steps.{stepped}

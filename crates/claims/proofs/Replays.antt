@@ -10,7 +10,7 @@ use Rattle.machine.specs.Instructions.{Station, Ran, ran}
 use Rattle.machine.specs.Steps.{clocked, stepped, accepts, accepted}
 use Rattle.vetting.specs.Programs.{Program, instruction_at}
 use Rattle.claims.specs.Moments.{Moment, moment, steps, past_after}
-use Rattle.claims.specs.Calls.{Place, register, cell, counter, top, flag, Call, step, go, halt, advance, mark, unmark, drive, peek, Session, most_steps, opened, made, advance_steps, after_call, past_after_call, after_calls, past_after_calls}
+use Rattle.claims.specs.Calls.{register, cell, counter, top, flag, Call, step, go, halt, advance, mark, unmark, drive, peek, Session, most_steps, opened, made, advance_steps, after_call, past_after_call, past_after_calls}
 use Rattle.claims.specs.Claims.{replayed, replayed_moment, SeenByEvents}
 
 module _ (p : Program) {S : Type 0} (m : Meaning S) (s : S) where

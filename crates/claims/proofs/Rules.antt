@@ -1,5 +1,5 @@
 -- A program that vetting accepts by the rulebooks is one whose words keep to their parts.
-use Rattle.std.proofs.Common.{◌≡◌, ℕ, ◌+◌, ◌<◌, ◌≤◌, Bool, true, false, not, ◌&&◌, ◌||◌, List, [], ◌∷◌, length, Some, None, Option, sym, refl, ap, ◌∙◌, inl, inr, mod-eq_of_lt, arith}
+use Rattle.std.proofs.Common.{◌≡◌, ℕ, ◌+◌, ◌≤◌, Bool, true, false, not, ◌&&◌, ◌||◌, List, [], ◌∷◌, Some, None, Option, refl, ap, ◌∙◌, inl, inr, mod-eq_of_lt, arith}
 use mathlib.Core.Logic.{∥∥₁_elim}
 use mathlib.Core.HLevel.{⊥_prop}
 use native.Mathlib.Bridge.{le_prop}
@@ -12,13 +12,13 @@ use Rattle.isa.specs.declared.instruction.Condition.{Condition}
 use Rattle.isa.specs.declared.instruction.Condition.TheVariants.{Always, Zero, NotZero, Carry, NoCarry, Negative, NotNegative, Overflow, NoOverflow}
 use Rattle.isa.specs.declared.instruction.Instruction.{Instruction}
 use Rattle.isa.specs.declared.instruction.Instruction.TheVariants.{Alu, Move, Load, Store, Jump, Call, Return, ReturnFromInterrupt, DisableInterrupts, EnableInterrupts, Swap, Shift}
-use Rattle.walk.specs.Walk.{Reaches, Longest}
+use Rattle.walk.specs.Walk.{Longest}
 use Rattle.machine.specs.Parts.{does, result_of, way_of, enables}
 use Rattle.vetting.specs.declared.depths.Depths.{Depths}
 use Rattle.vetting.specs.declared.rules.Rule.{Rule}
 use Rattle.vetting.specs.declared.rules.Rule.TheVariants.{MainWord, MainReturn, MainRegister, HandlerWord, HandlerReturn, HandlerWrite}
 use Rattle.vetting.specs.Programs.{Program, instruction_at, graph_of, indirect, operand_names, keeps_result, main_breaks, handler_breaks, enables as enables-word}
-use Rattle.vetting.specs.Verdicts.{is_filled, reset, vector, Counted, Broken, HandlerDepths, Accepted}
+use Rattle.vetting.specs.Verdicts.{is_filled, vector, Counted, Broken, HandlerDepths, Accepted}
 use Rattle.claims.proofs.Constants.{SmallStore, small_stores}
 use Rattle.claims.proofs.Rulebooks.{Fixed, Filled, Empty, Mains, MainsOperand, MainResult, MainWay, MainMay, HandlerResult, HandlerWay, HandlerUse, HandlerMay, KeptBy}
 

@@ -1,5 +1,5 @@
 -- What stays true of a station through steps, and through events of the bus that leave cells alone.
-use Rattle.std.proofs.Common.{◌≡◌, ℕ, zero, suc, ◌+◌, ◌-◌, ◌%◌, ◌≤◌, Bool, true, false, cond, not, List, [], ◌∷◌, ◌++◌, map, length, get_or, set, replicate, Some, None, Option, sym, refl, ap, ◌∙◌, subst, ap₂, arith}
+use Rattle.std.proofs.Common.{◌≡◌, ℕ, zero, suc, ◌+◌, ◌%◌, ◌≤◌, Bool, true, false, cond, not, List, [], ◌∷◌, ◌++◌, map, length, get_or, set, replicate, Some, None, Option, sym, refl, ap, ◌∙◌, subst, ap₂, arith}
 use Rattle.isa.specs.declared.instruction.Condition.TheVariants.{Always, Zero, NotZero, Carry, NoCarry, Negative, NotNegative, Overflow, NoOverflow}
 use Rattle.isa.specs.declared.instruction.Instruction.{Instruction}
 use Rattle.isa.specs.declared.instruction.Instruction.TheVariants.{Alu, Move, Load, Store, Jump, Call, Return, ReturnFromInterrupt, DisableInterrupts, EnableInterrupts, Swap, Shift}
@@ -11,13 +11,13 @@ use Rattle.machine.specs.declared.access.Access.TheVariants.{Write}
 use Rattle.machine.specs.declared.processor.Saved.{Saved}
 use Rattle.machine.specs.Processors.{fresh, saved}
 use Rattle.machine.specs.Instructions.{Station, Ran}
-use Rattle.machine.specs.Steps.{clocked, stepped, accepts, accepted, interrupted}
-use Rattle.machine.specs.Parts.{Action, return_interrupt, Way, does, Request, nothing, read, write, request, stacking, answer, access_made, ran_by_parts}
+use Rattle.machine.specs.Steps.{clocked, stepped, accepts, accepted}
+use Rattle.machine.specs.Parts.{Action, Way, does, Request, nothing, read, write, request, stacking, answer, access_made, ran_by_parts}
 use Rattle.machine.proofs.ByParts.{by_parts}
 use Rattle.vetting.specs.declared.depths.Depths.{Depths}
 use Rattle.vetting.specs.Programs.{Program, instruction_at}
 use Rattle.claims.specs.Moments.{Moment, Point, moment, steps, past_after, pushed_by, popped_by, pushes, pops, in_use}
-use Rattle.claims.specs.Interrupts.{Throughout, Between, Balanced, Pointed, no_word, store_of, mains, guarded, with_open, open_reads, GivenBack, Returns}
+use Rattle.claims.specs.Interrupts.{Throughout, Between, Balanced, Pointed, no_word, store_of, mains, with_open, open_reads, GivenBack, Returns}
 use Rattle.claims.specs.Calls.{touched}
 use Rattle.claims.proofs.Rulebooks.{code_of, KeptBy, MainWay}
 use Rattle.claims.proofs.Lists.{mask, words, Holds, at_pointer, holds_none, words_after}

@@ -1,5 +1,5 @@
 -- Every list of calls on a station with an accepted program, over every two lawful buses, keeps the claims.
-use Rattle.std.proofs.Common.{◌≡◌, ℕ, ◌<◌, Bool, true, false, cond, eqb, List, [], ◌∷◌, map, length, get_or, Some, None, Option, sym, refl, ap, ◌∙◌, subst, arith}
+use Rattle.std.proofs.Common.{◌≡◌, ℕ, Bool, true, false, cond, eqb, List, [], ◌∷◌, length, get_or, Some, sym, refl, ap, ◌∙◌, subst, arith}
 use mathlib.Core.Path.{fun_ext}
 use Rattle.bus.specs.Meaning.{Meaning, Laws}
 use Rattle.machine.specs.Instructions.{Station}

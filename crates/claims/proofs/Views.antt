@@ -1,6 +1,5 @@
 -- What main sees of a station, and how one of main's instructions changes it.
-use Rattle.std.proofs.Common.{◌≡◌, ℕ, Bool, true, false, cond, not, ◌&&◌, eqb, ◌⊎◌, List, [], ◌∷◌, map, get_or, set, Some, None, Option, sym, refl, ap, ◌∙◌, ap₂, inl, inr}
-use Rattle.isa.specs.declared.register.RegisterName.{RegisterName}
+use Rattle.std.proofs.Common.{◌≡◌, ℕ, Bool, true, false, cond, not, ◌&&◌, eqb, List, [], ◌∷◌, map, Some, None, Option, refl, ap, inl, inr}
 use Rattle.isa.specs.declared.instruction.Operand.{Operand}
 use Rattle.isa.specs.declared.instruction.Operand.TheVariants.{Register, Constant}
 use Rattle.isa.specs.declared.instruction.Condition.TheVariants.{Always, Zero, NotZero, Carry, NoCarry, Negative, NotNegative, Overflow, NoOverflow}
@@ -12,7 +11,7 @@ use Rattle.walk.specs.declared.flow.Flow.TheVariants.{Nowhere, Next, Branch, Jum
 use Rattle.walk.specs.Walk.{Reaches, on as then, goes, calls, returns}
 use Rattle.machine.specs.declared.processor.Saved.{Saved}
 use Rattle.machine.specs.Processors.{saved, next, value_in}
-use Rattle.machine.specs.Parts.{Result, none, computes, receives, Judgement, judges, enables, Use, load, store, Way, on, branch, jump, call, return, return_interrupt, nowhere, Action, does, Request, nothing, read, write, request, registers_after, flags_set, flags_after, pc_after, Stacking, stays, pushes, pops, stacking}
+use Rattle.machine.specs.Parts.{Result, none, computes, receives, Judgement, judges, enables, Use, load, store, Way, on, branch, jump, call, return, return_interrupt, nowhere, Action, does, Request, nothing, read, write, request, registers_after, flags_set, flags_after, pc_after, stacking}
 use Rattle.vetting.specs.Programs.{Program, flow_of, graph_of}
 use Rattle.claims.specs.Interrupts.{no_word}
 use Rattle.claims.proofs.Rulebooks.{Fixed, Filled, Empty, MainsOperand, MainResult, MainJudgement, MainUse, MainWay, HandlerResult, HandlerUse, HandlerWay}

@@ -4,7 +4,7 @@ use Rattle.bus.specs.Meaning.{Event, Meaning, Laws}
 use Rattle.machine.specs.declared.access.StepRecord.{StepRecord}
 use Rattle.vetting.specs.declared.depths.Depths.{Depths}
 use Rattle.vetting.specs.Programs.{Program}
-use Rattle.claims.specs.Moments.{Moment, moment, past_after}
+use Rattle.claims.specs.Moments.{Moment, past_after}
 use Rattle.claims.specs.Interrupts.{Throughout, Balanced, Pointed, Returns, SameGuarded, Independent}
 use Rattle.claims.specs.Calls.{Call, step, advance, Mode, halted, leads_to, led_to, Allowed, Session, opened, after_calls, past_of}
 

@@ -26,9 +26,9 @@ pub(crate) fn change<B: Bus>(
     processor: &mut Processor,
     bus: &mut B,
 ) -> Result<(), Refusal>
-    ensures answer { result ≡ poke_answer meaning poke bus.old }
-    ensures processor { processor.new ≡ poke_processor meaning poke processor.old }
-    ensures bus { bus.new ≡ poke_bus meaning poke bus.old }
+    ensures answer { result ≡ poke_answer B.meaning poke bus.old }
+    ensures processor { processor.new ≡ poke_processor B.meaning poke processor.old }
+    ensures bus { bus.new ≡ poke_bus B.meaning poke bus.old }
 {
     match poke {
         Poke::Register { number, byte } => {

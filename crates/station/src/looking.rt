@@ -27,8 +27,8 @@ pub(crate) fn look<B: Bus>(
     processor: &Processor,
     bus: &mut B,
 ) -> Result<Peeked, Refusal>
-    ensures answer { result ≡ peek_answer meaning place processor.now bus.old }
-    ensures bus { bus.new ≡ peek_bus meaning place bus.old }
+    ensures answer { result ≡ peek_answer B.meaning place processor.now bus.old }
+    ensures bus { bus.new ≡ peek_bus B.meaning place bus.old }
 {
     match place {
         Place::Register(number) => {
