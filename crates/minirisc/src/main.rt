@@ -6,6 +6,7 @@ use files::{Fault, image_binary, image_text, sheet_text};
 use listing::{ListingError, listing};
 use report::Report;
 use std::alloc::AllocError;
+use std::process::ExitCode;
 use std::{env, fs, io};
 use vetting::vet;
 
@@ -131,7 +132,16 @@ fn run(rt: &HostRuntime, arguments: &[String]) -> Result<(), Unsuccessful> {
     }
 }
 
-fn main(rt: HostRuntime) -> Result<(), Unsuccessful> {
-    let arguments: Vec<String> = env::args(&rt)?.skip(1).collect(rt.alloc())?;
-    run(&rt, &arguments)
+// Takes the arguments and does what they ask for.
+fn started(rt: &HostRuntime) -> Result<(), Unsuccessful> {
+    let arguments: Vec<String> = env::args(rt)?.skip(1).collect(rt.alloc())?;
+    run(rt, &arguments)
+}
+
+// The status alone tells of a failure: what there was to tell has been printed.
+fn main(rt: HostRuntime) -> ExitCode {
+    match started(&rt) {
+        Ok(()) => ExitCode::SUCCESS,
+        Err(Unsuccessful) => ExitCode::FAILURE,
+    }
 }
