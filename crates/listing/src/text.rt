@@ -67,6 +67,7 @@ fn write_listing(text: &mut String, image: &[u16]) -> Result<(), AllocError>
 }
 
 // The listing of an image of 256 words.
+#[tactic(auto, using(crate::proofs::Counts::lists_written))]
 pub fn listing(heap: Global, image: &[u16]) -> Result<String, ListingError>
     ensures { elim result [
       | Ok text ↦ Lists image.now (string_bytes text)
