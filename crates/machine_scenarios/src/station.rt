@@ -1,6 +1,6 @@
 // A processor on the desk's bus with an image, as the tests use it.
 use alu::Flags;
-use bus::{Bus, Device};
+use bus::Bus;
 use devices::{Desk, desk};
 use machine::{Access, Processor, step};
 use std::process::Abort;
