@@ -1,4 +1,4 @@
-// Sessions: a station's calls, each with what it does and the claims about interrupts.
+// The beginnings of sessions: what of a halted station can be looked at and changed by hand. Nothing of it can be called from outside yet.
 #![tactic(auto)]
 
 mod acting;
