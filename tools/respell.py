@@ -4,6 +4,7 @@
 usage: python3 tools/respell.py [--list]        at the top of the repository
 
 - A definition, lemma or field of specs/ and proofs/ is in snake case: a dash becomes an underscore.
+- So are a name that a `use` line gives to another and a local name.
 - A type or a fact, whose name begins with a capital, is in upper camel case: `Has-word` becomes `HasWord`.
 - The crate `hex` becomes `hexadecimal`, since the kit has a library of that name.
 
@@ -18,6 +19,11 @@ import subprocess
 import sys
 
 WORD = r'[^\s(){}.;,@"«»\[\]`]+'
+# Local names: what a lemma takes or a `let` binds.
+LOCAL = "allowed-too as-shown at-line i-is in-line laws-too led-too no-case other-st ready-all within-handler yes-case".split()
+ALIAS = re.compile(r"\bas ([a-z]+(?:-[a-z]+)+)(?=[,}])")
+# Names of the library that stand at the beginning of a line.
+LIBRARY = {"map-append"}
 GENERATED = re.compile(r"(invariant|decreases)-|.*(-init|-preserved|-smaller|-requires)$")
 SIGNATURE = re.compile(
     r"^\s*(?:\|\s*)?(?:(?:pub|abbrev|unfoldable|record|data|ruleset)\s+)*(" + WORD + r"(?:\s+" + WORD + r")*?)(?:\s+[({].*)?\s+:\s+(.*)"
@@ -61,6 +67,11 @@ def declared():
     return names, goals
 
 
+def aliases():
+    """The names that a `use` line gives to a name of another file."""
+    return {alias for path in texts(".antt") for line in read(path).split("\n") if re.match(r"\s*use\s", line) for alias in ALIAS.findall(line)}
+
+
 def spelled(name):
     if name in OTHERWISE:
         return OTHERWISE[name]
@@ -72,7 +83,8 @@ def spelled(name):
 
 def table():
     names, goals = declared()
-    own = {n for n in names if re.fullmatch(r"[A-Za-z][\w'-]*-[\w'-]+", n) and n not in goals and not GENERATED.match(n)}
+    own = {n for n in names if re.fullmatch(r"[A-Za-z][\w'-]*-[\w'-]+", n) and n not in goals and n not in LIBRARY and not GENERATED.match(n)}
+    own |= aliases() | {n for n in LOCAL if any(n in read(path) for path in texts(".antt"))}
     return {n: spelled(n) for n in sorted(own)}, names
 
 

@@ -56,7 +56,7 @@ module _ (p : Program) (depths : Depths) (known : ∥ Accepted p depths ∥₁) 
         balanced = own.balanced first calls allowed;
         pointed = own.pointed first calls allowed;
         returns = own.returns first calls allowed;
-        independent = λ k laws-too. (claims_of p depths known S (List Event) m k laws laws-too).independent first calls allowed;
+        independent = λ k laws_too. (claims_of p depths known S (List Event) m k laws laws_too).independent first calls allowed;
       }
 
   pub continues : (c : Call) (state : Mode) → Fits state c → (before after : Session S) → after ≡ after_call p m c before → Continues p depths m c state before after
@@ -71,5 +71,5 @@ module _ (p : Program) (depths : Depths) (known : ∥ Accepted p depths ∥₁) 
       )
 
   pub independent_stations : {T : Type 0} (k : Meaning T) → Laws 256 k → (state : Mode) (x : Session S) (other : Mode) (y : Session T) → IndependentStations p m k state x other y
-  independent_stations {T} k laws-too state x other y first calls led second others led-too same =
-      (claims_of p depths known S T m k laws laws-too).independent first calls led.allowed second others led-too.allowed same
+  independent_stations {T} k laws_too state x other y first calls led second others led_too same =
+      (claims_of p depths known S T m k laws laws_too).independent first calls led.allowed second others led_too.allowed same

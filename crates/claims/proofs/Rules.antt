@@ -17,7 +17,7 @@ use Rattle.machine.specs.Parts.{does, result_of, way_of, enables}
 use Rattle.vetting.specs.declared.depths.Depths.{Depths}
 use Rattle.vetting.specs.declared.rules.Rule.{Rule}
 use Rattle.vetting.specs.declared.rules.Rule.TheVariants.{MainWord, MainReturn, MainRegister, HandlerWord, HandlerReturn, HandlerWrite}
-use Rattle.vetting.specs.Programs.{Program, instruction_at, graph_of, indirect, operand_names, keeps_result, main_breaks, handler_breaks, enables as enables-word}
+use Rattle.vetting.specs.Programs.{Program, instruction_at, graph_of, indirect, operand_names, keeps_result, main_breaks, handler_breaks, enables as enables_word}
 use Rattle.vetting.specs.Verdicts.{is_filled, vector, Counted, Broken, HandlerDepths, Accepted}
 use Rattle.claims.proofs.Constants.{SmallStore, small_stores}
 use Rattle.claims.proofs.Rulebooks.{Fixed, Filled, Empty, Mains, MainsOperand, MainResult, MainWay, MainMay, HandlerResult, HandlerWay, HandlerUse, HandlerMay, KeptBy}
@@ -134,7 +134,7 @@ module _ (p : Program) where
   handler_may (Some (Shift s x)) list small e = record { result = written _ _ (e HandlerWrite); judgement = tt; uses = tt; way = tt }
 
 -- only STI sets IE
-pub enabling : (i : Option Instruction) → (does i).judgement ≡ enables true → enables-word i ≡ true
+pub enabling : (i : Option Instruction) → (does i).judgement ≡ enables true → enables_word i ≡ true
 enabling None e = cc
 enabling (Some (Alu op x o)) e = cc
 enabling (Some (Move x o)) e = cc

@@ -254,7 +254,7 @@ module _ (p : Program) (depths : Depths) (ok : KeptBy p depths) (guard : ℕ →
       let d = stacking act.way in
       let may = ok.handler_keeps handling.counted _ _ handling.reached in
       let ready = poppable p act.way own way in
-      let ready-all = poppable_over d own (beneath v) ready in
+      let ready_all = poppable_over d own (beneath v) ready in
       let harmless = quiet_request p guard laws (request act.use_of regs) (proper_request act.use_of regs) (handler_request p act.use_of regs may.uses) kinds in
       let split = over d w own (beneath v) ready in
       let walked = walks p 1 pc own regs flags act.way (same_flow (instruction_at p pc)) way handling.reached in
@@ -262,8 +262,8 @@ module _ (p : Program) (depths : Depths) (ok : KeptBy p depths) (guard : ℕ →
       let same = same_flags p act.way list (top st.processor) (flags_set act.judgement regs flags) way in
       record {
         kinds = harmless.kinds;
-        holds = moved d w holds ready-all (rw (split, length-append) (omega (arith, main_room sound, rw length-map at (ok.handler_within handling.counted _ _ walked), ok.total_counted handling.counted, ok.fits)));
-        count = counting d w (own ++ beneath v) pushed popped ready-all count;
+        holds = moved d w holds ready_all (rw (split, length-append) (omega (arith, main_room sound, rw length-map at (ok.handler_within handling.counted _ _ walked), ok.total_counted handling.counted, ok.fits)));
+        count = counting d w (own ++ beneath v) pushed popped ready_all count;
         sound = sound;
         at = in_handler (words_after d w own)
             (record {

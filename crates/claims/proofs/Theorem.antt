@@ -55,9 +55,9 @@ module _ (p : Program) (guard : ℕ → Bool) {S T : Type 0} (m : Meaning S) (k 
         words = λ n below. words_at (in_use p x) n x.now.after.processor.stack y.now.after.processor.stack (ws ∙ ap (λ (l : ℕ). words l y.now.after.processor.stack) (sym used)) below;
       }
 
-  two_pasts : (depths : Depths) (start : View) (st : Station S) (past : List (Moment S)) (other-st : Station T) (other : List (Moment T)) →
-      Kept p depths guard m start st past → Kept p depths guard k start other-st other → Independent p m k past other
-  two_pasts depths start st past other-st other one two agree n x y e f =
+  two_pasts : (depths : Depths) (start : View) (st : Station S) (past : List (Moment S)) (other_st : Station T) (other : List (Moment T)) →
+      Kept p depths guard m start st past → Kept p depths guard k start other_st other → Independent p m k past other
+  two_pasts depths start st past other_st other one two agree n x y e f =
       alike_points x y
       (mains_all (λ z. Kinds p guard m z.now.after.bus) past n x one.kinds e)
       (alike (code_of p) guard start n (shown_point p guard m x) (shown_point p guard k y) one.given two.given
@@ -70,11 +70,11 @@ same_contents p m k s t same a = by (guarded p m s a) (λ g. rw g (same.contents
 
 -- an acceptance that is only known to exist is enough
 pub claims_of : (p : Program) (depths : Depths) → ∥ Accepted p depths ∥₁ → (S T : Type 0) (m : Meaning S) (k : Meaning T) → Laws 256 m → Laws 256 k → Claims p depths m k
-claims_of p depths known S T m k laws laws-too = record {
+claims_of p depths known S T m k laws laws_too = record {
   balanced = λ s calls allowed. (first s calls allowed).balanced;
   pointed = λ s calls allowed. (first s calls allowed).pointed;
   returns = λ s calls allowed. (first s calls allowed).returns;
-  independent = λ s calls allowed t others allowed-too same. two_pasts p (guarded p m s) m k depths (start s) _ _ _ _ (first s calls allowed) (second s t others allowed-too same);
+  independent = λ s calls allowed t others allowed_too same. two_pasts p (guarded p m s) m k depths (start s) _ _ _ _ (first s calls allowed) (second s t others allowed_too same);
 }
   where
     start : S → View
@@ -87,7 +87,7 @@ claims_of p depths known S T m k laws laws-too = record {
 
     second : (s : S) (t : T) (others : List Call) → Allowed halted others → SameGuarded p m k s t → Kept p depths (guarded p m s) k (start s) (after_calls p k others (opened t)).station (past_of p k t others)
     second s t others allowed same =
-        calls_keep p depths (kept_by p depths known) (guarded p m s) k laws-too (start s) halted others allowed (opened t) []
+        calls_keep p depths (kept_by p depths known) (guarded p m s) k laws_too (start s) halted others allowed (opened t) []
         (fresh_kept p depths (guarded p m s) k t (start s) (record { at = λ a. sym (same.kinds a) })
         (λ i. record { pc = 0; flags = (start s).flags; registers = (start s).registers; cells = fun_ext (same_contents p m k s t same) i; words = [] }))
 

@@ -2,7 +2,7 @@
 use Rattle.std.proofs.Common.{◌≡◌, ℕ, zero, suc, ◌<◌, Bool, true, false, List, [], ◌∷◌, length, Ok, Err, Result, sym, refl, ap, ◌∙◌, inl, inr, zero-le, arith}
 use mathlib.Core.Bool.{false≢true}
 use Rattle.refusal.specs.declared.refusal.Refusal.{Refusal}
-use Rattle.refusal.specs.declared.refusal.Refusal.TheVariants.{ImageSize, SheetEnd, SheetWord, SheetRange, MainWord as main-word, MainReturn as main-return, MainRegister as main-register, HandlerWord as handler-word, HandlerReturn as handler-return, HandlerWrite as handler-write, Depth, Register, Port, Budget, BurnBuffer}
+use Rattle.refusal.specs.declared.refusal.Refusal.TheVariants.{ImageSize, SheetEnd, SheetWord, SheetRange, MainWord as main_word, MainReturn as main_return, MainRegister as main_register, HandlerWord as handler_word, HandlerReturn as handler_return, HandlerWrite as handler_write, Depth, Register, Port, Budget, BurnBuffer}
 use Rattle.refusal.specs.Refusals.{number_of}
 use Rattle.walk.specs.declared.flow.Flow.TheVariants.{Jump, Call, Return}
 use Rattle.walk.specs.Walk.{Leads, Reaches}
@@ -143,10 +143,10 @@ call_first = record { fits = fits; sole = sole }
     sole (Ok d) x = absurd (one_answer (with_first 0xB900) lone_end (Ok d) (Err Depth) x fits)
     sole (Err r) x = ap (λ (s : Refusal). Err s) (only_depth r (one_answer (with_first 0xB900) lone_end (Err r) (Err Depth) x fits).0)
 
-pub return_first : SoleAnswer (with_first 0xBA00) (Err (main-return 0))
+pub return_first : SoleAnswer (with_first 0xBA00) (Err (main_return 0))
 return_first = record { fits = fits; sole = sole }
   where
-    fits : Answered (with_first 0xBA00) lone_end (Err (main-return 0))
+    fits : Answered (with_first 0xBA00) lone_end (Err (main_return 0))
     fits = (
       in_order 0xBA00,
       record {
@@ -167,26 +167,26 @@ return_first = record { fits = fits; sole = sole }
     at_zero a (inl b) = (return_stays b.1).0
     at_zero a (inr b) = absurd (not_counted 0xBA00 (λ a l r. (return_stays r).0) refl b.0)
 
-    place : (r : Refusal) → number_of r ≡ 6 → Refused (with_first 0xBA00) lone_end r → r ≡ main-return 0
-    place (main-return a) e x = ap (λ (b : ℕ). main-return b) (at_zero a x.1.broken)
+    place : (r : Refusal) → number_of r ≡ 6 → Refused (with_first 0xBA00) lone_end r → r ≡ main_return 0
+    place (main_return a) e x = ap (λ (b : ℕ). main_return b) (at_zero a x.1.broken)
     place ImageSize e x = cc
     place SheetEnd e x = cc
     place (SheetWord i) e x = cc
     place (SheetRange i) e x = cc
-    place (main-word a) e x = cc
-    place (main-register a) e x = cc
-    place (handler-word a) e x = cc
-    place (handler-return a) e x = cc
-    place (handler-write a) e x = cc
+    place (main_word a) e x = cc
+    place (main_register a) e x = cc
+    place (handler_word a) e x = cc
+    place (handler_return a) e x = cc
+    place (handler_write a) e x = cc
     place Depth e x = cc
     place Register e x = cc
     place Port e x = cc
     place Budget e x = cc
     place BurnBuffer e x = cc
 
-    sole : (other : Result Depths Refusal) → Answered (with_first 0xBA00) lone_end other → other ≡ Err (main-return 0)
-    sole (Ok d) x = absurd (one_answer (with_first 0xBA00) lone_end (Ok d) (Err (main-return 0)) x fits)
-    sole (Err r) x = ap (λ (s : Refusal). Err s) (place r (one_answer (with_first 0xBA00) lone_end (Err r) (Err (main-return 0)) x fits).0 x)
+    sole : (other : Result Depths Refusal) → Answered (with_first 0xBA00) lone_end other → other ≡ Err (main_return 0)
+    sole (Ok d) x = absurd (one_answer (with_first 0xBA00) lone_end (Ok d) (Err (main_return 0)) x fits)
+    sole (Err r) x = ap (λ (s : Refusal). Err s) (place r (one_answer (with_first 0xBA00) lone_end (Err r) (Err (main_return 0)) x fits).0 x)
 
 pub worked : (first : ℕ) (r : Result Depths Refusal) → Answered (with_first first) lone_end r → WorkedAnswer first r
 worked first r x = record {

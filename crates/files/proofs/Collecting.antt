@@ -38,7 +38,7 @@ module _ {W : Type 0} (value : List ℕ → Option W) where
 
   -- the first fault of the next tokens is the first of all
   fault_after : (digits : Digits) (ts us left : List Token) (was mid : List W) (f : Fault) → Sofar ts was mid (us ++ left) → Faults value digits us f → Faults value digits ts f
-  fault_after digits ts us left was mid (Malformed line width found) s (t, first, at-line, of_width, as-shown) = (
+  fault_after digits ts us left was mid (Malformed line width found) s (t, first, at_line, of_width, as_shown) = (
     t,
     record {
       before = s.seen ++ first.before;
@@ -48,9 +48,9 @@ module _ {W : Type 0} (value : List ℕ → Option W) where
       good = are_words_append s.seen first.before s.words first.words s.good first.good;
       bad = first.bad;
     },
-    at-line,
+    at_line,
     of_width,
-    as-shown,
+    as_shown,
   )
   fault_after digits ts us left was mid (HalfWord n) s h = h
   fault_after digits ts us left was mid Memory s h = tt

@@ -78,6 +78,6 @@ comment_none (b ∷ bs) open' =
 pub open_all : (bs : List ℕ) (e : ℕ) → length bs ≤ e → ((k : ℕ) → k + 1 < e → get_or bs k 0 ≡ 47 → get_or bs (k + 1) 0 ≡ 47 → ⊥) → Open bs (length bs)
 open_all bs e h seen k lt p q =
     ⊎_elim
-    (λ in-line. seen k (omega arith) p q)
+    (λ in_line. seen k (omega arith) p q)
     (λ past. omega (arith, get_or_past bs (k + 1) 0 past))
     (order (k + 1) (length bs))

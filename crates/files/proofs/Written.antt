@@ -85,7 +85,7 @@ module _ {value : List ℕ → Option ℕ} {digits : ℕ → List ℕ} {limit : 
   pub reads_back : {Z : Type 0} (width : Digits) (text : List ℕ) (r : Result (Vec ℕ Z) Fault) → Reads value width (tokens text) r → ReadBack limit (line_of digits) text r
   reads_back width text (Ok v) read ws all is =
       some_same (vec_items v) ws (sym read ∙ ap (λ l. map (λ (t : Token). value t.bytes) (tokens l)) is ∙ lines_read 1 ws all)
-  reads_back width text (Err (Malformed line digits found)) (t, fault, at-line, of_width, as-shown) ws all is =
+  reads_back width text (Err (Malformed line digits found)) (t, fault, at_line, of_width, as_shown) ws all is =
       let f : Token → Option ℕ = λ t. value t.bytes in
       let split : map f (tokens text) ≡ map f fault.before ++ None ∷ map f fault.after =
       ap (map f) fault.cut ∙ map-append f fault.before (t ∷ fault.after) ∙ ap (λ o. map f fault.before ++ o ∷ map f fault.after) fault.bad in

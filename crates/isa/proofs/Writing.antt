@@ -31,8 +31,8 @@ shift_holds : (s : ℕ) (x : RegisterName) → Holds (shift_form s x) (0xF070 + 
 shift_holds s x = grind arith
 
 by_test : (b : Bool) (p q : Option Instruction) (w : ℕ) → (b ≡ true → Holds p w) → (b ≡ false → Holds q w) → Holds (elim b [ true ↦ p | false ↦ q ]) w
-by_test true p q w yes-case no-case = yes-case refl
-by_test false p q w yes-case no-case = no-case refl
+by_test true p q w yes_case no_case = yes_case refl
+by_test false p q w yes_case no_case = no_case refl
 
 at_word : {i : Option Instruction} {v w : ℕ} → v ≡ w → Holds i v → Holds i w
 at_word {i} e h = subst (Holds i) e h

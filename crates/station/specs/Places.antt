@@ -16,9 +16,9 @@ use Rattle.station.specs.declared.places.Place.TheVariants.{Register, Cell, Pc, 
 use Rattle.station.specs.declared.places.Peeked.{Peeked}
 use Rattle.station.specs.declared.places.Peeked.TheVariants.{Byte, Flag as Bit, Word}
 use Rattle.station.specs.declared.places.ResultFlag.{ResultFlag}
-use Rattle.station.specs.declared.places.ResultFlag.TheVariants.{Z as z-flag, C as c-flag, N as n-flag, V as v-flag}
+use Rattle.station.specs.declared.places.ResultFlag.TheVariants.{Z as z_flag, C as c_flag, N as n_flag, V as v_flag}
 use Rattle.station.specs.declared.places.Poke.{Poke}
-use Rattle.station.specs.declared.places.Poke.TheVariants.{Register as to-register, Cell as to_cell, Pc as to-pc, Flag as to-flag}
+use Rattle.station.specs.declared.places.Poke.TheVariants.{Register as to_register, Cell as to_cell, Pc as to_pc, Flag as to_flag}
 
 -- the registers
 abbrev pub register_count : ℕ
@@ -52,10 +52,10 @@ flag_of If f = f.handling
 
 -- one flag of a result set or cleared; the others stay
 abbrev pub with_flag : ResultFlag → Bool → Flags → Flags
-with_flag z-flag b f = record { z = b; c = f.c; n = f.n; v = f.v; ie = f.ie; handling = f.handling }
-with_flag c-flag b f = record { z = f.z; c = b; n = f.n; v = f.v; ie = f.ie; handling = f.handling }
-with_flag n-flag b f = record { z = f.z; c = f.c; n = b; v = f.v; ie = f.ie; handling = f.handling }
-with_flag v-flag b f = record { z = f.z; c = f.c; n = f.n; v = b; ie = f.ie; handling = f.handling }
+with_flag z_flag b f = record { z = b; c = f.c; n = f.n; v = f.v; ie = f.ie; handling = f.handling }
+with_flag c_flag b f = record { z = f.z; c = b; n = f.n; v = f.v; ie = f.ie; handling = f.handling }
+with_flag n_flag b f = record { z = f.z; c = f.c; n = b; v = f.v; ie = f.ie; handling = f.handling }
+with_flag v_flag b f = record { z = f.z; c = f.c; n = f.n; v = b; ie = f.ie; handling = f.handling }
 
 -- a register by its number
 abbrev pub with_numbered : ℕ → ℕ → Processor → Processor
@@ -80,21 +80,21 @@ module _ {S : Type 0} (m : Meaning S) where
 
   -- what a poke answers: a register above 15 and a port are refused
   abbrev pub poke_answer : Poke → S → Result (Unit {0}) Refusal
-  poke_answer (to-register n v) s = cond (nat_lt n register_count) (Ok tt) (Err no_register)
+  poke_answer (to_register n v) s = cond (nat_lt n register_count) (Ok tt) (Err no_register)
   poke_answer (to_cell a v) s = cond (m.keeps s a) (Ok tt) (Err Port)
-  poke_answer (to-pc a) s = Ok tt
-  poke_answer (to-flag f b) s = Ok tt
+  poke_answer (to_pc a) s = Ok tt
+  poke_answer (to_flag f b) s = Ok tt
 
   -- the processor after a poke; a refused one leaves it
   abbrev pub poke_processor : Poke → Processor → Processor
-  poke_processor (to-register n v) p = cond (nat_lt n register_count) (with_numbered n v p) p
+  poke_processor (to_register n v) p = cond (nat_lt n register_count) (with_numbered n v p) p
   poke_processor (to_cell a v) p = p
-  poke_processor (to-pc a) p = at_pc a p
-  poke_processor (to-flag f b) p = with_flags (with_flag f b p.flags) p
+  poke_processor (to_pc a) p = at_pc a p
+  poke_processor (to_flag f b) p = with_flags (with_flag f b p.flags) p
 
   -- the bus after a poke: a kept address is written, and nothing else is touched
   abbrev pub poke_bus : Poke → S → S
-  poke_bus (to-register n v) s = s
+  poke_bus (to_register n v) s = s
   poke_bus (to_cell a v) s = cond (m.keeps s a) (m.after s (write a v)) s
-  poke_bus (to-pc a) s = s
-  poke_bus (to-flag f b) s = s
+  poke_bus (to_pc a) s = s
+  poke_bus (to_flag f b) s = s

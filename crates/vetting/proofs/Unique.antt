@@ -4,7 +4,7 @@ use mathlib.Core.Path.{fun_ext}
 use mathlib.Core.Bool.{false≢true}
 use Rattle.std.proofs.lemmas.Bool.{cases_order}
 use Rattle.refusal.specs.declared.refusal.Refusal.{Refusal}
-use Rattle.refusal.specs.declared.refusal.Refusal.TheVariants.{ImageSize, SheetEnd, SheetWord, SheetRange, MainWord as main-word, MainReturn as main-return, MainRegister as main-register, HandlerWord as handler-word, HandlerReturn as handler-return, HandlerWrite as handler-write, Depth, Register, Port, Budget, BurnBuffer}
+use Rattle.refusal.specs.declared.refusal.Refusal.TheVariants.{ImageSize, SheetEnd, SheetWord, SheetRange, MainWord as main_word, MainReturn as main_return, MainRegister as main_register, HandlerWord as handler_word, HandlerReturn as handler_return, HandlerWrite as handler_write, Depth, Register, Port, Budget, BurnBuffer}
 use Rattle.refusal.specs.Refusals.{number_of, place_of}
 use Rattle.walk.specs.Walk.{Graph, Longest}
 use Rattle.vetting.specs.declared.depths.Depths.{Depths}
@@ -58,7 +58,7 @@ module _ (p : Program) where
       elim x.handler [
         | inl a ↦ a.0 deep.0
         | inr a ↦
-            let within-handler = a.1.most inner.0 inner.1 inner.2 in
+            let within_handler = a.1.most inner.0 inner.1 inner.2 in
             let no : ⊥ = omega (arith, a.2, x.fits, inner.3) in
             no
       ]
@@ -91,12 +91,12 @@ module _ (image sheet : List ℕ) where
   why SheetEnd x = Why.end x.0 x.1
   why (SheetWord i) x = Why.word x.0 x.1
   why (SheetRange i) x = Why.range x.0 x.1
-  why (main-word a) x = Why.rule MainWord x.0 x.1
-  why (main-return a) x = Why.rule MainReturn x.0 x.1
-  why (main-register a) x = Why.rule MainRegister x.0 x.1
-  why (handler-word a) x = Why.rule HandlerWord x.0 x.1
-  why (handler-return a) x = Why.rule HandlerReturn x.0 x.1
-  why (handler-write a) x = Why.rule HandlerWrite x.0 x.1
+  why (main_word a) x = Why.rule MainWord x.0 x.1
+  why (main_return a) x = Why.rule MainReturn x.0 x.1
+  why (main_register a) x = Why.rule MainRegister x.0 x.1
+  why (handler_word a) x = Why.rule HandlerWord x.0 x.1
+  why (handler_return a) x = Why.rule HandlerReturn x.0 x.1
+  why (handler_write a) x = Why.rule HandlerWrite x.0 x.1
   why Depth x = Why.depth x.0 x.1 x.2
   why Register x = absurd x
   why Port x = absurd x
@@ -197,12 +197,12 @@ module _ (image sheet : List ℕ) where
   from_program o (Err SheetEnd) x = absurd x
   from_program o (Err (SheetWord i)) x = absurd x
   from_program o (Err (SheetRange i)) x = absurd x
-  from_program o (Err (main-word a)) x = (o, x)
-  from_program o (Err (main-return a)) x = (o, x)
-  from_program o (Err (main-register a)) x = (o, x)
-  from_program o (Err (handler-word a)) x = (o, x)
-  from_program o (Err (handler-return a)) x = (o, x)
-  from_program o (Err (handler-write a)) x = (o, x)
+  from_program o (Err (main_word a)) x = (o, x)
+  from_program o (Err (main_return a)) x = (o, x)
+  from_program o (Err (main_register a)) x = (o, x)
+  from_program o (Err (handler_word a)) x = (o, x)
+  from_program o (Err (handler_return a)) x = (o, x)
+  from_program o (Err (handler_write a)) x = (o, x)
   from_program o (Err Depth) x = (o, x.0, x.1)
   from_program o (Err Register) x = absurd x
   from_program o (Err Port) x = absurd x
@@ -220,12 +220,12 @@ module _ (image sheet : List ℕ) where
   refused long SheetEnd x = (long, x)
   refused long (SheetWord i) x = (long, x)
   refused long (SheetRange i) x = (long, x)
-  refused long (main-word a) x = absurd x
-  refused long (main-return a) x = absurd x
-  refused long (main-register a) x = absurd x
-  refused long (handler-word a) x = absurd x
-  refused long (handler-return a) x = absurd x
-  refused long (handler-write a) x = absurd x
+  refused long (main_word a) x = absurd x
+  refused long (main_return a) x = absurd x
+  refused long (main_register a) x = absurd x
+  refused long (handler_word a) x = absurd x
+  refused long (handler_return a) x = absurd x
+  refused long (handler_write a) x = absurd x
   refused long Depth x = absurd x
   refused long Register x = absurd x
   refused long Port x = absurd x

@@ -1,7 +1,7 @@
 -- What the sets of a walk tell of the rules: the steps from the walks to the verdict.
 use Rattle.std.specs.Prelude.{◌≡◌, ℕ, ◌+◌, ◌<◌, ◌≤◌, Bool, true, false, cond, ◌&&◌, ◌||◌, List, Some, None, Ok, Err, Option, Result, ◌≢◌, nat_lt, slice_index_or}
 use Rattle.refusal.specs.declared.refusal.Refusal.{Refusal}
-use Rattle.refusal.specs.declared.refusal.Refusal.TheVariants.{ImageSize, SheetEnd, SheetWord, SheetRange, Depth, Register, Port, Budget, BurnBuffer, MainWord as main-word, MainReturn as main-return, MainRegister as main-register, HandlerWord as handler-word, HandlerReturn as handler-return, HandlerWrite as handler-write}
+use Rattle.refusal.specs.declared.refusal.Refusal.TheVariants.{ImageSize, SheetEnd, SheetWord, SheetRange, Depth, Register, Port, Budget, BurnBuffer, MainWord as main_word, MainReturn as main_return, MainRegister as main_register, HandlerWord as handler_word, HandlerReturn as handler_return, HandlerWrite as handler_write}
 use Rattle.walk.specs.declared.search.Reach.{Reach}
 use Rattle.walk.specs.Sets.{has}
 use Rattle.vetting.specs.declared.rules.Rule.{Rule}
@@ -33,12 +33,12 @@ Judged w test None = (rule : Rule) (a : ℕ) → a < 256 → broken_in w (test r
 
 -- the refusal of a rule that is broken at an address
 abbrev pub refusal_of : Rule → ℕ → Refusal
-refusal_of MainWord a = main-word a
-refusal_of MainReturn a = main-return a
-refusal_of MainRegister a = main-register a
-refusal_of HandlerWord a = handler-word a
-refusal_of HandlerReturn a = handler-return a
-refusal_of HandlerWrite a = handler-write a
+refusal_of MainWord a = main_word a
+refusal_of MainReturn a = main_return a
+refusal_of MainRegister a = main_register a
+refusal_of HandlerWord a = handler_word a
+refusal_of HandlerReturn a = handler_return a
+refusal_of HandlerWrite a = handler_write a
 
 -- the program of an image and a sheet as it was read
 abbrev pub read_program : List ℕ → Sheet → Program
@@ -50,12 +50,12 @@ ProgramRefused p ImageSize = ⊥
 ProgramRefused p SheetEnd = ⊥
 ProgramRefused p (SheetWord i) = ⊥
 ProgramRefused p (SheetRange i) = ⊥
-ProgramRefused p (main-word a) = FirstBroken p MainWord a
-ProgramRefused p (main-return a) = FirstBroken p MainReturn a
-ProgramRefused p (main-register a) = FirstBroken p MainRegister a
-ProgramRefused p (handler-word a) = FirstBroken p HandlerWord a
-ProgramRefused p (handler-return a) = FirstBroken p HandlerReturn a
-ProgramRefused p (handler-write a) = FirstBroken p HandlerWrite a
+ProgramRefused p (main_word a) = FirstBroken p MainWord a
+ProgramRefused p (main_return a) = FirstBroken p MainReturn a
+ProgramRefused p (main_register a) = FirstBroken p MainRegister a
+ProgramRefused p (handler_word a) = FirstBroken p HandlerWord a
+ProgramRefused p (handler_return a) = FirstBroken p HandlerReturn a
+ProgramRefused p (handler_write a) = FirstBroken p HandlerWrite a
 ProgramRefused p Depth = ((rule : Rule) (a : ℕ) → Broken p rule a → ⊥) × TooDeep p
 ProgramRefused p Register = ⊥
 ProgramRefused p Port = ⊥

@@ -1,7 +1,7 @@
 -- What vetting answers of an image and a sheet.
 use Rattle.std.specs.Prelude.{◌≡◌, ℕ, ◌+◌, ◌<◌, ◌≤◌, Bool, true, false, ◌⊎◌, List, [], ◌∷◌, length, Ok, Err, Result}
 use Rattle.refusal.specs.declared.refusal.Refusal.{Refusal}
-use Rattle.refusal.specs.declared.refusal.Refusal.TheVariants.{ImageSize, SheetEnd, SheetWord, SheetRange, MainWord as main-word, MainReturn as main-return, MainRegister as main-register, HandlerWord as handler-word, HandlerReturn as handler-return, HandlerWrite as handler-write, Depth, Register, Port, Budget, BurnBuffer}
+use Rattle.refusal.specs.declared.refusal.Refusal.TheVariants.{ImageSize, SheetEnd, SheetWord, SheetRange, MainWord as main_word, MainReturn as main_return, MainRegister as main_register, HandlerWord as handler_word, HandlerReturn as handler_return, HandlerWrite as handler_write, Depth, Register, Port, Budget, BurnBuffer}
 use Rattle.refusal.specs.Refusals.{number_of, place_of}
 use Rattle.walk.specs.Walk.{Graph, Reaches, Longest}
 use Rattle.vetting.specs.declared.rules.Rule.{Rule}
@@ -107,12 +107,12 @@ Refused image sheet ImageSize = length image ≡ image_size → ⊥
 Refused image sheet SheetEnd = (length image ≡ image_size) × (Ended sheet → ⊥)
 Refused image sheet (SheetWord i) = (length image ≡ image_size) × FirstImproper sheet i
 Refused image sheet (SheetRange i) = (length image ≡ image_size) × FirstTurned sheet i
-Refused image sheet (main-word a) = InOrder image sheet × FirstBroken (program_of image sheet) MainWord a
-Refused image sheet (main-return a) = InOrder image sheet × FirstBroken (program_of image sheet) MainReturn a
-Refused image sheet (main-register a) = InOrder image sheet × FirstBroken (program_of image sheet) MainRegister a
-Refused image sheet (handler-word a) = InOrder image sheet × FirstBroken (program_of image sheet) HandlerWord a
-Refused image sheet (handler-return a) = InOrder image sheet × FirstBroken (program_of image sheet) HandlerReturn a
-Refused image sheet (handler-write a) = InOrder image sheet × FirstBroken (program_of image sheet) HandlerWrite a
+Refused image sheet (main_word a) = InOrder image sheet × FirstBroken (program_of image sheet) MainWord a
+Refused image sheet (main_return a) = InOrder image sheet × FirstBroken (program_of image sheet) MainReturn a
+Refused image sheet (main_register a) = InOrder image sheet × FirstBroken (program_of image sheet) MainRegister a
+Refused image sheet (handler_word a) = InOrder image sheet × FirstBroken (program_of image sheet) HandlerWord a
+Refused image sheet (handler_return a) = InOrder image sheet × FirstBroken (program_of image sheet) HandlerReturn a
+Refused image sheet (handler_write a) = InOrder image sheet × FirstBroken (program_of image sheet) HandlerWrite a
 Refused image sheet Depth = InOrder image sheet × ((rule : Rule) (a : ℕ) → Broken (program_of image sheet) rule a → ⊥) × TooDeep (program_of image sheet)
 Refused image sheet Register = ⊥
 Refused image sheet Port = ⊥

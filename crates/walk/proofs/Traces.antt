@@ -71,7 +71,7 @@ traced_none flows s long just = record {
   grows = grown_none s;
 }
 
-module _ (p : Graph) (s t : AddressSet) (i j : ℕ) (g : Bool) (i-is : i ≡ j + 1) (inv : Traced p i s t g) where
+module _ (p : Graph) (s t : AddressSet) (i j : ℕ) (g : Bool) (i_is : i ≡ j + 1) (inv : Traced p i s t g) where
   pub traced_skip : returns_of t j (p j) ≡ false → Traced p j s t g
   traced_skip out = record {
     just = inv.just;
