@@ -1,7 +1,2 @@
-// The claims about interrupts.
+// The claims about interrupts: definitions and lemmas. No function yet.
 #![tactic(auto)]
-
-// Nothing yet.
-pub fn nothing() -> u8 {
-    0
-}
