@@ -4,10 +4,12 @@
 mod assembly;
 mod decoding;
 mod encoding;
+mod image;
 mod instruction;
 mod register;
 
 pub use decoding::decode;
 pub use encoding::encode;
+pub use image::instruction_at;
 pub use instruction::{AluOperation, Condition, Instruction, Operand, ShiftOperation};
 pub use register::RegisterName;

@@ -4,7 +4,7 @@ ghost use Rattle.refusal.specs.declared.refusal.Refusal.TheVariants.{Register as
 
 use refusal::Refusal;
 
-#[derive(Clone, Copy)]
+#[derive(Clone, Copy, PartialEq, Eq, Debug)]
 pub struct RegisterName {
     number: u8,
     ghost small: { number < 16 },
