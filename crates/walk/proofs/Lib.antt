@@ -1,6 +1,6 @@
 pub mod Sets
-pub mod Frames
-pub mod Passes
-pub mod Traces
-pub mod Edges
-pub mod Gathers
+pub mod Closures
+pub mod Levels
+pub mod Returns
+pub mod Steps
+pub mod Walks

@@ -1,20 +1,13 @@
--- What an insertion does to a set of addresses.
+-- What insertions do to a set of addresses.
 use Rattle.std.proofs.Common.{◌≡◌, ℕ, ◌<◌, Bool, true, false, cond, not, ◌||◌, ◌⊎◌, List, length, set, sym, refl, ap, ◌∙◌, inl, inr, true≢false, arith, get_or-set_other, get_or-set_same}
 use mathlib.Core.Bool.{false≢true}
-use lib.Seq.{set-get_or}
+use Rattle.std.proofs.lemmas.List.{get_or_past, set-get_or}
 use Rattle.std.proofs.lemmas.List.Sums.{sum_by-set}
-use Rattle.std.proofs.lemmas.Bool.{cases_eq}
+use Rattle.std.proofs.lemmas.Bool.{cases_eq, cases_lt, not-false}
 use Rattle.walk.specs.declared.addresses.AddressSet.{AddressSet}
-use Rattle.walk.specs.Sets.{has, Has, absent, Grown, Inserted}
+use Rattle.walk.specs.Sets.{has, Has, Within, absent, Grown, Puts}
 
-not_false : (b : Bool) → not b ≡ false → b ≡ true
-not_false true e = refl
-not_false false e = sym e
-
-module _ (s : AddressSet) (at : ℕ) (small : at < 256) (long : length s.members ≡ 256) where
-  fits : at < length s.members
-  fits = omega arith
-
+module _ (s : AddressSet) (at : ℕ) (fits : at < length s.members) where
   abbrev grown_to : AddressSet
   grown_to = record { members = set s.members at true }
 
@@ -32,17 +25,15 @@ module _ (s : AddressSet) (at : ℕ) (small : at < 256) (long : length s.members
         | inr ne ↦ inr (rw (get_or-set_other s.members at a true false ne) at h)
       ]
 
-  pub inserted : Inserted s at grown_to (not (has s at))
+  pub inserted : Puts (λ a. a ≡ at) s grown_to (not (has s at))
   unfolding absent
   inserted = record {
-    holds = get_or-set_same s.members at true false fits;
+    holds = λ a e. rw e (get_or-set_same s.members at true false fits);
     only = only;
     grows = record {
       keeps = keeps;
-      within = λ w a h. elim (only a h) [ inl e ↦ rw e small | inr k ↦ w a k ];
       same = λ e.
-          let h : has s at ≡ true = not_false (has s at) e in
-          let u : set s.members at true ≡ s.members = rw h at (set-get_or s.members at false) in
+          let u : set s.members at true ≡ s.members = rw (not-false (has s at) e) at (set-get_or s.members at false) in
           ap (λ (m : List Bool). let t : AddressSet = record { members = m } in t) u;
       fewer = λ e.
           let n = sum_by-set (λ b. cond (not b) 1 0) s.members at true false fits in
@@ -51,12 +42,11 @@ module _ (s : AddressSet) (at : ℕ) (small : at < 256) (long : length s.members
   }
 
 pub grown_none : (s : AddressSet) → Grown s s false
-grown_none s = record { keeps = λ a h. h; within = λ w. w; same = λ e. refl; fewer = λ e. absurd (false≢true e) }
+grown_none s = record { keeps = λ a h. h; same = λ e. refl; fewer = λ e. absurd (false≢true e) }
 
 pub grown_both : (s t u : AddressSet) (g n : Bool) → Grown s t g → Grown t u n → Grown s u (g || n)
 grown_both s t u g n x y = record {
   keeps = λ a h. y.keeps a (x.keeps a h);
-  within = λ w. y.within (x.within w);
   same = same g n x y;
   fewer = fewer g n x y;
 }
@@ -70,7 +60,10 @@ grown_both s t u g n x y = record {
     fewer true false x y e = rw (y.same refl) (x.fewer refl)
     fewer false n x y e = rw (x.same refl) at (y.fewer e)
 
--- the first part of what has not grown has not grown
-pub neither : (g n : Bool) → (g || n) ≡ false → g ≡ false
-neither true n e = e
-neither false n e = refl
+-- a set of 256 places holds addresses only
+pub within : (s : AddressSet) → length s.members ≡ 256 → Within s
+within s long a h =
+    elim (cases_lt a 256) [
+      | inl lt ↦ lt
+      | inr ge ↦ absurd (false≢true (sym (get_or_past s.members a false (omega arith)) ∙ h))
+    ]

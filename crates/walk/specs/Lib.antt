@@ -1,5 +1,6 @@
 pub mod Sets
 pub mod Walk
 pub mod Frames
-pub mod Passes
+pub mod Closures
+pub mod Rules
 pub mod Result

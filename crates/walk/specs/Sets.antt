@@ -21,12 +21,11 @@ absent s = count_by not s.members
 -- s became t by insertions; grown tells whether one of them was of an address that was not in before
 pub record Grown (s t : AddressSet) (grown : Bool) : Type 0 where
   pub keeps : (a : ℕ) → Has s a → Has t a
-  pub within : Within s → Within t
   pub same : grown ≡ false → t ≡ s
   pub fewer : grown ≡ true → absent t < absent s
 
--- s became t as `at` was put in
-pub record Inserted (s : AddressSet) (at : ℕ) (t : AddressSet) (grown : Bool) : Type 0 where
-  pub holds : Has t at
-  pub only : (a : ℕ) → Has t a → (a ≡ at) ⊎ Has s a
+-- s became t as the addresses that are asked for were put in
+pub record Puts (asked : ℕ → Type 0) (s t : AddressSet) (grown : Bool) : Type 0 where
+  pub holds : (a : ℕ) → asked a → Has t a
+  pub only : (a : ℕ) → Has t a → asked a ⊎ Has s a
   pub grows : Grown s t grown

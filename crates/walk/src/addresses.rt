@@ -1,6 +1,8 @@
 // Sets of addresses.
-ghost use Rattle.std.specs.Prelude.{◌≡◌, ℕ, true, false};
-ghost use Rattle.walk.specs.Sets.{has, Has, Inserted};
+ghost use Rattle.std.specs.Prelude.{◌≡◌, ℕ, true, false, ◌↔◌};
+ghost use Rattle.walk.specs.Sets.{has, Has, Puts};
+
+use std::mem;
 
 // A set of addresses.
 #[derive(Clone, Copy)]
@@ -18,6 +20,15 @@ impl AddressSet {
         }
     }
 
+    // The set of one address.
+    pub(crate) fn of(at: u8) -> AddressSet
+        ensures { (a : ℕ) → Has result a ↔ (a ≡ at) }
+    {
+        let mut set = AddressSet::new();
+        let _new = set.insert(at);
+        set
+    }
+
     // Whether an address is in the set.
     pub fn contains(&self, at: u8) -> bool
         ensures { result ≡ has self.now at }
@@ -27,12 +38,9 @@ impl AddressSet {
 
     // Puts an address in, and tells whether it was not in before.
     pub(crate) fn insert(&mut self, at: u8) -> bool
-        ensures { Inserted self.old at self.new result }
+        ensures { Puts (λ a. a ≡ at) self.old self.new result }
     {
-        let place = at as usize;
-        let grown = !self.members[place];
-        self.members[place] = true;
-        grown
+        !mem::replace(&mut self.members[usize::from(at)], true)
     }
 
     // Whether no address is in the set.
@@ -40,11 +48,6 @@ impl AddressSet {
         ensures yes { result ≡ true → (a : ℕ) → Has self.now a → ⊥ }
         ensures not { result ≡ false → (a : ℕ) × Has self.now a }
     {
-        for member in self.members.iter() {
-            if *member {
-                return false;
-            }
-        }
-        true
+        !self.members.contains(&true)
     }
 }

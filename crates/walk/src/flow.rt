@@ -11,10 +11,3 @@ pub enum Flow {
     Call(u8),
     Return,
 }
-
-// The addresses, at most two, that a word leads to.
-#[derive(Clone, Copy)]
-pub struct Onward {
-    pub first: Option<u8>,
-    pub second: Option<u8>,
-}

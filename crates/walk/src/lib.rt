@@ -2,7 +2,9 @@
 #![tactic(auto)]
 
 mod addresses;
+mod closure;
 mod flow;
+mod frames;
 mod search;
 
 pub use addresses::AddressSet;

@@ -3,4 +3,5 @@ use Rattle.walk.proofs.Sets.{inserted}
 use Rattle.walk.proofs.addresses.AddressSet.insert.Goals as goal
 
 pub returns : goal.returns
-returns c = inserted c.args.self.now c.args.at (search rules) (search rules)
+returns c =
+    rw (c.replace.ensures.after, c.replace.ensures.value, c.from.ensures) (inserted c.args.self.now c.args.at (search rules))

@@ -1,0 +1,36 @@
+// Sets that are closed under a rule.
+ghost use Rattle.std.specs.Prelude.{ℕ};
+ghost use Rattle.walk.specs.declared.addresses.AddressSet.{AddressSet};
+ghost use Rattle.walk.specs.Sets.{Puts};
+ghost use Rattle.walk.specs.Closures.{Applied, Closed};
+
+use crate::addresses::AddressSet;
+
+// A rule by which addresses are put into a set.
+pub(crate) trait Rule {
+    // For which addresses the rule asks, in sight of a set and at an address.
+    ghost asks: { Self → AddressSet → ℕ → ℕ → Type 0 };
+
+    // Puts in what the rule asks for at an address, and tells whether the set grew.
+    fn apply(&self, at: u8, set: &mut AddressSet) -> bool
+        ensures { Puts (asks self.now set.old at) set.old set.new result };
+}
+
+// Applies a rule once at each address, and tells whether the set grew.
+fn pass<R: Rule>(rule: &R, set: &mut AddressSet) -> bool
+    ensures { Applied (R.asks rule.now) 256 set.old set.new result }
+{
+    let mut grown = false;
+    for at in 0..=255u8 {
+        grown |= rule.apply(at, set);
+    }
+    grown
+}
+
+// Puts in all that comes of a set by a rule.
+pub(crate) fn close<R: Rule>(rule: &R, mut set: AddressSet) -> AddressSet
+    ensures { Closed (R.asks rule.now) set result }
+{
+    while pass(rule, &mut set) {}
+    set
+}
