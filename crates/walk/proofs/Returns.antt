@@ -1,5 +1,5 @@
 -- The rule that finds from where a frame returns.
-use Rattle.std.proofs.Common.{◌≡◌, ℕ, true, ◌↔◌, List, length, refl, inl, inr, arith}
+use Rattle.std.proofs.Common.{◌≡◌, ℕ, ◌-◌, true, ◌↔◌, List, length, refl, inl, inr, arith}
 use mathlib.Core.Bool.{false≢true}
 use Rattle.std.proofs.lemmas.List.{get_or_past}
 use Rattle.std.proofs.lemmas.Bool.{cases_lt, or_cases, or_left, or_right, and_parts}
@@ -52,7 +52,7 @@ module _ (flows : List Flow) (s t : AddressSet) (none : (a : ℕ) → Has s a �
   comes_returns : {a : ℕ} → Comes (AsksReturns flows) s a → Returning (graph flows) a
   comes_returns (Comes.given h) = absurd (none _ h)
   comes_returns (Comes.asked {a = a} u before (h, e)) =
-      rw e (returns_just (graph flows) u a (λ c k. comes_returns (before c k)) h)
+      rw e (returns_just (graph flows) u (255 - a) (λ c k. comes_returns (before c k)) h)
 
   -- from no address on, the rule comes to those from which a frame returns
   pub exact : length flows ≡ 256 → Closed (AsksReturns flows) s t → (a : ℕ) → Has t a ↔ Returning (graph flows) a
@@ -61,7 +61,9 @@ module _ (flows : List Flow) (s t : AddressSet) (none : (a : ℕ) → Has s a �
       closed : (a : ℕ) → returns_of t a (graph flows a) ≡ true → Has t a
       closed a h =
           elim (cases_lt a 256) [
-            | inl lt ↦ c.all a a lt (h, refl)
+            | inl lt ↦
+                let e : 255 - (255 - a) ≡ a = omega arith in
+                c.all (255 - a) a (omega arith) (rw e (h, refl))
             | inr ge ↦
                 let q : graph flows a ≡ Nowhere = get_or_past flows a Nowhere (omega arith) in
                 absurd (false≢true (rw q at h))

@@ -1,5 +1,5 @@
 -- For which addresses the rules of the search ask.
-use Rattle.std.specs.Prelude.{◌≡◌, ℕ, Bool, true, false, ◌&&◌, ◌||◌, ◌⊎◌, List}
+use Rattle.std.specs.Prelude.{◌≡◌, ℕ, ◌-◌, Bool, true, false, ◌&&◌, ◌||◌, ◌⊎◌, List}
 use Rattle.walk.specs.declared.flow.Flow.{Flow}
 use Rattle.walk.specs.declared.flow.Flow.TheVariants.{Next, Branch, Jump, Call, Return, Nowhere}
 use Rattle.walk.specs.declared.addresses.AddressSet.{AddressSet}
@@ -24,9 +24,9 @@ Follows r (Jump t) a b = b ≡ t
 Follows r (Call t) a b = Has r t × (b ≡ after a)
 Follows r Return a b = ⊥
 
--- asks for the address itself, if a frame returns from there
+-- asks for the address that is as far from the last as a is from the first, if a frame returns from there
 abbrev pub AsksReturns : List Flow → AddressSet → ℕ → ℕ → Type 0
-AsksReturns flows s a b = (returns_of s a (graph flows a) ≡ true) × (b ≡ a)
+AsksReturns flows s a b = (returns_of s (255 - a) (graph flows (255 - a)) ≡ true) × (b ≡ 255 - a)
 
 -- asks for where an address in the set leads within its frame
 abbrev pub AsksSteps : List Flow → AddressSet → AddressSet → ℕ → ℕ → Type 0

@@ -33,7 +33,9 @@ fn returns_from(flow: Flow, at: u8, returning: &AddressSet) -> bool
 impl Rule for Returns<'_> {
     ghost asks = { λ rule. AsksReturns rule.flows.now };
 
+    // From the last address to the first, since most words lead on to the next.
     fn apply(&self, at: u8, set: &mut AddressSet) -> bool {
+        let at = u8::MAX - at;
         returns_from(self.flows[usize::from(at)], at, set) && set.insert(at)
     }
 }
