@@ -3,14 +3,14 @@ use Rattle.std.proofs.Common.{◌≡◌, ℕ, ◌+◌, Bool, false, ◌||◌, in
 use Rattle.std.proofs.lemmas.Bool.{cases_eq, or_parts}
 use Rattle.walk.specs.declared.addresses.AddressSet.{AddressSet}
 use Rattle.walk.specs.Sets.{Has, Puts}
-use Rattle.walk.specs.Closures.{Comes, Applied}
+use Rattle.walk.specs.Closures.{Derived, Applied}
 use Rattle.walk.proofs.Sets.{grown_none, grown_both}
 
 module _ (asks : AddressSet → ℕ → ℕ → Type 0) where
   pub applied_none : (s : AddressSet) → Applied asks 0 s s false
   applied_none s = record {
-    just = λ a h. Comes.given h;
-    closed = λ e a b lt. absurd (let no : ⊥ = omega arith in no);
+    just = λ a h. Derived.given h;
+    closed = λ e a b lt. absurd (omega arith);
     grows = grown_none s;
   }
 
@@ -19,7 +19,7 @@ module _ (asks : AddressSet → ℕ → ℕ → Type 0) where
   applied_more i m s t u g n one inv add =
       let grows = grown_both s t u g n inv.grows add.grows in
       record {
-        just = λ a h. elim (add.only a h) [ inl k ↦ Comes.asked t inv.just k | inr h ↦ inv.just a h ];
+        just = λ a h. elim (add.only a h) [ inl k ↦ Derived.asked t inv.just k | inr h ↦ inv.just a h ];
         closed = λ e a b lt k. elim (cases_eq a i) [
           | inl q ↦
               let here : asks t i b = rw (inv.grows.same (or_parts g n e).0) (rw q at k) in
@@ -29,7 +29,7 @@ module _ (asks : AddressSet → ℕ → ℕ → Type 0) where
         grows = grows;
       }
 
-  -- what comes of a set that comes of another comes of that one
-  pub comes_of : {s t : AddressSet} → ((a : ℕ) → Has t a → Comes asks s a) → {a : ℕ} → Comes asks t a → Comes asks s a
-  comes_of all (Comes.given h) = all _ h
-  comes_of all (Comes.asked u before k) = Comes.asked u (λ c h. comes_of all (before c h)) k
+  -- what is derived from a set of addresses derived from s is derived from s
+  pub derived_of : {s t : AddressSet} → ((a : ℕ) → Has t a → Derived asks s a) → {a : ℕ} → Derived asks t a → Derived asks s a
+  derived_of all (Derived.given h) = all _ h
+  derived_of all (Derived.asked u before k) = Derived.asked u (λ c h. derived_of all (before c h)) k

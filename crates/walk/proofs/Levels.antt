@@ -1,6 +1,5 @@
 -- The levels hold exactly what the walk reaches: an address is in level k if and only if it is reached with a list of k addresses.
 use Rattle.std.proofs.Common.{◌≡◌, ℕ, zero, suc, ◌≤◌, true, false, List, [], ◌∷◌, length, Some, None, refl, ap, inl, inr, zero-le, arith}
-use mathlib.Core.Bool.{false≢true}
 use Rattle.std.proofs.lemmas.Bool.{cases_eq}
 use Rattle.walk.specs.Walk.{after, Graph, Leads, Reaches, Deepest}
 use Rattle.walk.specs.Frames.{Returning, Step, Spread, Entered, Base, Level}
@@ -28,7 +27,7 @@ module _ (p : Graph) (start : ℕ) where
   steps : {a b : ℕ} {l : List ℕ} → Step p false a b → Reaches p start a l → Reaches p start b l
   steps (Step.along g) w = Reaches.on w (Leads.goes g)
   steps (Step.over e x) w = leaves x (Reaches.on w (Leads.calls e))
-  steps (Step.into e d) w = absurd (false≢true d)
+  steps (Step.into e d) w = cc
 
   -- reached with a list of k addresses
   abbrev pub Reached : ℕ → ℕ → Type 0
@@ -108,7 +107,7 @@ module _ (p : Graph) (start : ℕ) where
   deepen : {a b : ℕ} → Step p false a b → Step p true a b
   deepen (Step.along g) = Step.along g
   deepen (Step.over e x) = Step.over e x
-  deepen (Step.into e d) = absurd (false≢true d)
+  deepen (Step.into e d) = cc
 
   abbrev Deep : ℕ → Type 0
   Deep = Spread (Step p true) (Base p start 1)
@@ -125,7 +124,7 @@ module _ (p : Graph) (start : ℕ) where
   filled_reached v = let w = deep_level v in let u = reached (suc w.0) w.1 in front u.0 u.1 u.2
     where
       front : {b k : ℕ} (l : List ℕ) → length l ≡ suc k → Reaches p start b l → (r : ℕ) × (m : List ℕ) × Reaches p start b (r ∷ m)
-      front [] e w = absurd (let no : ⊥ = omega arith in no)
+      front [] e w = absurd (omega arith)
       front (r ∷ m) e w = (r, m, w)
 
   pub reached_filled : {b r : ℕ} {l : List ℕ} → Reaches p start b (r ∷ l) → Spread (Step p true) (Base p start 1) b
@@ -136,4 +135,4 @@ module _ (p : Graph) (start : ℕ) where
     where
       none : {b : ℕ} (l : List ℕ) → length l ≡ 0 → Reaches p start b l → Reaches p start b []
       none [] e w = w
-      none (r ∷ m) e w = absurd (let no : ⊥ = omega arith in no)
+      none (r ∷ m) e w = absurd (omega arith)

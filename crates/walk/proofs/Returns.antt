@@ -1,6 +1,6 @@
 -- The rule that finds from where a frame returns.
 use Rattle.std.proofs.Common.{◌≡◌, ℕ, ◌-◌, true, ◌↔◌, List, length, refl, inl, inr, arith}
-use mathlib.Core.Bool.{false≢true}
+use Rattle.std.proofs.lemmas.Bool.{false≢true}
 use Rattle.std.proofs.lemmas.List.{get_or_past}
 use Rattle.std.proofs.lemmas.Bool.{cases_lt, or_cases, or_left, or_right, and_parts}
 use Rattle.walk.specs.declared.addresses.AddressSet.{AddressSet}
@@ -9,7 +9,7 @@ use Rattle.walk.specs.declared.flow.Flow.TheVariants.{Next, Branch, Jump, Call, 
 use Rattle.walk.specs.Sets.{has, Has}
 use Rattle.walk.specs.Walk.{after, Graph, graph, Goes}
 use Rattle.walk.specs.Frames.{Returning}
-use Rattle.walk.specs.Closures.{Comes, Closed}
+use Rattle.walk.specs.Closures.{Derived, IsClosure}
 use Rattle.walk.specs.Rules.{returns_of, AsksReturns}
 
 module _ (p : Graph) (s : AddressSet) where
@@ -18,7 +18,7 @@ module _ (p : Graph) (s : AddressSet) where
   returns_just a just = go (p a) refl
     where
       go : (f : Flow) → p a ≡ f → returns_of s a f ≡ true → Returning p a
-      go Nowhere e h = absurd (false≢true h)
+      go Nowhere e h = cc
       go Next e h = Returning.later {b = after a} (rw e refl) (just _ h)
       go (Branch t) e h = elim (or_cases (has s (after a)) (has s t) h) [
         | inl k ↦ Returning.later {b = after a} (rw e (inl refl)) (just _ k)
@@ -49,14 +49,14 @@ module _ (p : Graph) (s : AddressSet) where
       closed a (rw (e, k, m))
 
 module _ (flows : List Flow) (s t : AddressSet) (none : (a : ℕ) → Has s a → ⊥) where
-  comes_returns : {a : ℕ} → Comes (AsksReturns flows) s a → Returning (graph flows) a
-  comes_returns (Comes.given h) = absurd (none _ h)
-  comes_returns (Comes.asked {a = a} u before (h, e)) =
-      rw e (returns_just (graph flows) u (255 - a) (λ c k. comes_returns (before c k)) h)
+  derived_returns : {a : ℕ} → Derived (AsksReturns flows) s a → Returning (graph flows) a
+  derived_returns (Derived.given h) = absurd (none _ h)
+  derived_returns (Derived.asked {a = a} u before (h, e)) =
+      rw e (returns_just (graph flows) u (255 - a) (λ c k. derived_returns (before c k)) h)
 
-  -- from no address on, the rule comes to those from which a frame returns
-  pub exact : length flows ≡ 256 → Closed (AsksReturns flows) s t → (a : ℕ) → Has t a ↔ Returning (graph flows) a
-  exact long c a = (λ h. comes_returns (c.just a h), returns_all (graph flows) t closed)
+  -- the closure of the empty set is the set of the addresses from which a frame returns
+  pub exact : length flows ≡ 256 → IsClosure (AsksReturns flows) s t → (a : ℕ) → Has t a ↔ Returning (graph flows) a
+  exact long c a = (λ h. derived_returns (c.just a h), returns_all (graph flows) t closed)
     where
       closed : (a : ℕ) → returns_of t a (graph flows a) ≡ true → Has t a
       closed a h =

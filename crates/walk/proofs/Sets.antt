@@ -1,6 +1,6 @@
 -- What insertions do to a set of addresses.
-use Rattle.std.proofs.Common.{◌≡◌, ℕ, ◌<◌, Bool, true, false, cond, not, ◌||◌, ◌⊎◌, List, length, set, sym, refl, ap, ◌∙◌, inl, inr, true≢false, arith, get_or-set_other, get_or-set_same}
-use mathlib.Core.Bool.{false≢true}
+use Rattle.std.proofs.Common.{◌≡◌, ℕ, ◌<◌, Bool, true, false, cond, not, ◌||◌, ◌⊎◌, List, length, set, sym, refl, ap, ◌∙◌, inl, inr, arith, get_or-set_other, get_or-set_same}
+use Rattle.std.proofs.lemmas.Bool.{false≢true}
 use Rattle.std.proofs.lemmas.List.{get_or_past, set-get_or}
 use Rattle.std.proofs.lemmas.List.Sums.{sum_by-set}
 use Rattle.std.proofs.lemmas.Bool.{cases_eq, cases_lt, not-false}
@@ -42,7 +42,7 @@ module _ (s : AddressSet) (at : ℕ) (fits : at < length s.members) where
   }
 
 pub grown_none : (s : AddressSet) → Grown s s false
-grown_none s = record { keeps = λ a h. h; same = λ e. refl; fewer = λ e. absurd (false≢true e) }
+grown_none s = record { keeps = λ a h. h; same = λ e. refl; fewer = λ e. cc }
 
 pub grown_both : (s t u : AddressSet) (g n : Bool) → Grown s t g → Grown t u n → Grown s u (g || n)
 grown_both s t u g n x y = record {
@@ -52,7 +52,7 @@ grown_both s t u g n x y = record {
 }
   where
     same : (g n : Bool) → Grown s t g → Grown t u n → (g || n) ≡ false → u ≡ s
-    same true n x y e = absurd (true≢false e)
+    same true n x y e = cc
     same false n x y e = y.same e ∙ x.same refl
 
     fewer : (g n : Bool) → Grown s t g → Grown t u n → (g || n) ≡ true → absent u < absent s

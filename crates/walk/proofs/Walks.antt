@@ -6,7 +6,7 @@ use Rattle.walk.specs.Sets.{Has}
 use Rattle.walk.specs.Walk.{graph, Deepest}
 use Rattle.walk.specs.Result.{Walked}
 use Rattle.walk.specs.Frames.{Returning, Entered, Base}
-use Rattle.walk.specs.Closures.{Closed}
+use Rattle.walk.specs.Closures.{IsClosure}
 use Rattle.walk.specs.Rules.{AsksSteps, AsksDeep}
 use Rattle.walk.proofs.Sets.{within}
 use Rattle.walk.proofs.Levels.{levels, deepest, beyond, empty_reached, filled_reached, reached_filled}
@@ -14,8 +14,8 @@ use Rattle.walk.proofs.Steps.{spread, deep_steps, level, next_level}
 
 pub walked : (flows told : List Flow) (r begin empty entered filled : AddressSet) (start limit : ℕ) (depth : Option ℕ) →
     told ≡ flows → ((a : ℕ) → Has r a ↔ Returning (graph told) a) →
-    ((a : ℕ) → Has begin a ↔ (a ≡ start)) → Closed (AsksSteps told r) begin empty → length empty.members ≡ 256 →
-    ((t : ℕ) → Has entered t ↔ Entered (graph told) (Has empty) t) → Closed (AsksDeep told r) entered filled →
+    ((a : ℕ) → Has begin a ↔ (a ≡ start)) → IsClosure (AsksSteps told r) begin empty → length empty.members ≡ 256 →
+    ((t : ℕ) → Has entered t ↔ Entered (graph told) (Has empty) t) → IsClosure (AsksDeep told r) entered filled →
     length filled.members ≡ 256 → Deepest (graph told) start limit depth →
     Walked (graph flows) start limit (record { empty = empty; filled = filled; depth = depth })
 walked flows told r begin empty entered filled start limit depth same exact begins closed long calls deep long_filled depths =
@@ -34,7 +34,7 @@ walked flows told r begin empty entered filled start limit depth same exact begi
 module _ (flows : List Flow) (r begin level next : AddressSet) (start limit d : ℕ)
     (exact : (a : ℕ) → Has r a ↔ Returning (graph flows) a)
     (begins : (a : ℕ) → Has begin a ↔ Base (graph flows) start d a)
-    (closed : Closed (AsksSteps flows r) begin level)
+    (closed : IsClosure (AsksSteps flows r) begin level)
     (long : length level.members ≡ 256)
     (calls : (t : ℕ) → Has next t ↔ Entered (graph flows) (Has level) t) where
   pub deeper : (a : ℕ) → Has next a ↔ Base (graph flows) start (d + 1) a

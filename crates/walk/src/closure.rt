@@ -1,14 +1,14 @@
-// Sets that are closed under a rule.
+// Closures of sets under a rule.
 ghost use Rattle.std.specs.Prelude.{ℕ};
 ghost use Rattle.walk.specs.declared.addresses.AddressSet.{AddressSet};
 ghost use Rattle.walk.specs.Sets.{Puts};
-ghost use Rattle.walk.specs.Closures.{Applied, Closed};
+ghost use Rattle.walk.specs.Closures.{Applied, IsClosure};
 
 use crate::addresses::AddressSet;
 
 // A rule by which addresses are put into a set.
 pub(crate) trait Rule {
-    // For which addresses the rule asks, in sight of a set and at an address.
+    // Which addresses the rule asks for, at a set and an address.
     ghost asks: { Self → AddressSet → ℕ → ℕ → Type 0 };
 
     // Puts in what the rule asks for at an address, and tells whether the set grew.
@@ -27,9 +27,9 @@ fn pass<R: Rule>(rule: &R, set: &mut AddressSet) -> bool
     grown
 }
 
-// Puts in all that comes of a set by a rule.
+// The closure of a set under a rule.
 pub(crate) fn close<R: Rule>(rule: &R, mut set: AddressSet) -> AddressSet
-    ensures { Closed (R.asks rule.now) set result }
+    ensures { IsClosure (R.asks rule.now) set result }
 {
     while pass(rule, &mut set) {}
     set

@@ -50,7 +50,7 @@ pub(crate) struct Frames<'a> {
 impl Frames<'_> {
     // Finds from where a frame returns.
     #[tactic(auto, using(crate::proofs::Returns::exact))]
-    pub(crate) fn of(flows: &[Flow; 256]) -> Frames<'_>
+    pub(crate) fn new(flows: &[Flow; 256]) -> Frames<'_>
         ensures flows { result.flows.now ≡ flows.now }
         ensures exact { (a : ℕ) → Has result.returning a ↔ Returning (graph result.flows.now) a }
     {

@@ -20,7 +20,7 @@ pub struct Reach {
 pub fn walk(flows: &[Flow; 256], start: u8, limit: u8) -> Reach
     ensures { Walked (graph flows.now) start limit result }
 {
-    let frames = Frames::of(flows);
+    let frames = Frames::new(flows);
     let steps = Steps { frames: &frames };
     let empty = close(&steps, AddressSet::of(start));
     let filled = close(&DeepSteps { frames: &frames }, frames.entered(&empty));
