@@ -6,17 +6,17 @@ use Rattle.walk.specs.Sets.{Has, Puts}
 use Rattle.walk.specs.Closures.{Derived, Applied}
 use Rattle.walk.proofs.Sets.{grown_none, grown_both}
 
-module _ (asks : AddressSet → ℕ → ℕ → Type 0) where
-  pub applied_none : (s : AddressSet) → Applied asks 0 s s false
-  applied_none s = record {
+module _ {asks : AddressSet → ℕ → ℕ → Type 0} where
+  pub applied_none : {s : AddressSet} → Applied asks 0 s s false
+  applied_none {s = s} = record {
     just = λ a h. Derived.given h;
     closed = λ e a b lt. absurd (omega arith);
     grows = grown_none s;
   }
 
-  pub applied_more : (i m : ℕ) (s t u : AddressSet) (g n : Bool) → m ≡ i + 1 → Applied asks i s t g → Puts (asks t i) t u n →
+  pub applied_more : {i m : ℕ} {s t u : AddressSet} {g n : Bool} → m ≡ i + 1 → Applied asks i s t g → Puts (asks t i) t u n →
       Applied asks m s u (g || n)
-  applied_more i m s t u g n one inv add =
+  applied_more {i = i} {s = s} {t = t} {u = u} {g = g} {n = n} one inv add =
       let grows = grown_both s t u g n inv.grows add.grows in
       record {
         just = λ a h. elim (add.only a h) [ inl k ↦ Derived.asked t inv.just k | inr h ↦ inv.just a h ];

@@ -10,5 +10,5 @@ loop-preserved g c =
     let pass = c.pass.ensures in
     record {
       keeps = λ a h. pass.grows.keeps a (c.loop.invariant.keeps a h);
-      just = λ a h. derived_of _ c.loop.invariant.just (pass.just a h);
+      just = λ a h. derived_of c.loop.invariant.just (pass.just a h);
     }
