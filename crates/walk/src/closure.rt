@@ -21,7 +21,7 @@ fn pass<R: Rule>(rule: &R, set: &mut AddressSet) -> bool
     ensures { Applied (R.asks rule.now) 256 set.old set.new result }
 {
     let mut grown = false;
-    for at in 0..=255u8 {
+    for at in 0..=u8::MAX {
         grown |= rule.apply(at, set);
     }
     grown
