@@ -25,7 +25,7 @@ impl AddressSet {
         ensures { (a : ℕ) → Has result a ↔ (a ≡ at) }
     {
         let mut set = AddressSet::new();
-        let _new = set.insert(at);
+        set.insert(at);
         set
     }
 

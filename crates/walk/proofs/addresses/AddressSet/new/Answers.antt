@@ -1,7 +1,6 @@
 use Rattle.std.proofs.Common.{false, replicate, sym, ◌∙◌, inl, inr}
-use Rattle.std.proofs.lemmas.Bool.{false≢true}
+use Rattle.std.proofs.lemmas.Bool.{false≢true, cases_lt}
 use Rattle.std.proofs.lemmas.List.{get_or_past, get_or-replicate}
-use Rattle.std.proofs.lemmas.Bool.{cases_lt}
 use Rattle.walk.proofs.addresses.AddressSet.new.Goals as goal
 
 pub returns : goal.returns
