@@ -7,22 +7,15 @@ pub fn digit(n: u8) -> char
     ensures digit { result ≡ digit_of (n % 16) }
     ensures ascii { result < 128 }
 {
-    let n = n % 16;
-    if n < 10 {
-        (b'0' + n) as char
-    } else {
-        (b'A' + (n - 10)) as char
-    }
+    char::from_digit(u32::from(n % 16), 16)
+        .unwrap()
+        .to_ascii_uppercase()
 }
 
 // The number that a digit stands for, in either case; none where the byte is no digit.
 pub fn value(byte: u8) -> Option<u8>
     ensures { result ≡ value_of byte }
 {
-    match byte {
-        b'0'..=b'9' => Some(byte - b'0'),
-        b'A'..=b'F' => Some(byte - b'A' + 10),
-        b'a'..=b'f' => Some(byte - b'a' + 10),
-        _ => None,
-    }
+    let digit = char::from(byte).to_digit(16)?;
+    Some(digit as u8)
 }
