@@ -1,6 +1,8 @@
 -- The fifteen refusals: the number, the name, the place and the text of each.
-use Rattle.std.specs.Prelude.{ℕ, List, [], ◌++◌, Some, None, codes, decimal, Option}
+use Rattle.std.specs.Prelude.{◌≡◌, ℕ, List, [], ◌++◌, Some, None, codes, decimal, Option}
 use Rattle.hexadecimal.specs.Hexadecimal.{two_digits}
+use Rattle.refusal.specs.declared.place.Place.{Place}
+use Rattle.refusal.specs.declared.place.Place.TheVariants.{Sheet, Image}
 use Rattle.refusal.specs.declared.refusal.Refusal.{Refusal}
 use Rattle.refusal.specs.declared.refusal.Refusal.TheVariants.{ImageSize, SheetEnd, SheetWord, SheetRange, MainWord, MainReturn, MainRegister, HandlerWord, HandlerReturn, HandlerWrite, Depth, Register, Port, Budget, BurnBuffer}
 
@@ -105,3 +107,14 @@ place_text BurnBuffer = []
 -- the text of a refusal: refused, its number, its name and its place
 abbrev pub refusal_text : Refusal → List ℕ
 refusal_text r = codes "refused " ++ (decimal (number_of r) ++ (codes " " ++ (name_of r ++ place_text r)))
+
+-- a place without the words before it
+abbrev pub text_of_place : Place → List ℕ
+text_of_place (Sheet index) = decimal index
+text_of_place (Image at) = codes "0x" ++ two_digits at
+
+-- the place where a refusal arose, if there is one, has its number, its address and its text
+abbrev pub AroseAt : Refusal → Option Place → Type 0
+AroseAt r (Some (Sheet index)) = (place_of r ≡ index) × (address_of r ≡ None) × (place_text r ≡ index_text index)
+AroseAt r (Some (Image at)) = (place_of r ≡ at) × (address_of r ≡ Some at) × (place_text r ≡ address_text at)
+AroseAt r None = (place_of r ≡ 0) × (address_of r ≡ None) × (place_text r ≡ [])

@@ -1,7 +1,8 @@
 // The number, the name and the place of each refusal.
 ghost use Rattle.std.specs.Prelude.{◌≡◌};
-ghost use Rattle.refusal.specs.Refusals.{number_of, name_of, place_of, address_of};
+ghost use Rattle.refusal.specs.Refusals.{number_of, name_of, place_of, address_of, AroseAt};
 
+use crate::place::Place;
 use crate::refusal::Refusal;
 
 impl Refusal {
@@ -51,25 +52,38 @@ impl Refusal {
         }
     }
 
-    // The index in the sheet for 3 and 4, an address for 5 to 10, else 0.
-    pub fn place(self) -> u8
-        ensures { result ≡ place_of self }
+    // Where it arose, if at a word of the sheet or of the image.
+    pub(crate) fn origin(self) -> Option<Place>
+        ensures { AroseAt self result }
     {
         match self {
-            Refusal::SheetWord { index } | Refusal::SheetRange { index } => index,
+            Refusal::SheetWord { index } | Refusal::SheetRange { index } => Some(Place::Sheet(
+                index,
+            )),
             Refusal::MainWord { at }
             | Refusal::MainReturn { at }
             | Refusal::MainRegister { at }
             | Refusal::HandlerWord { at }
             | Refusal::HandlerReturn { at }
-            | Refusal::HandlerWrite { at } => at,
+            | Refusal::HandlerWrite { at } => Some(Place::Image(at)),
             Refusal::ImageSize
             | Refusal::SheetEnd
             | Refusal::Depth
             | Refusal::Register
             | Refusal::Port
             | Refusal::Budget
-            | Refusal::BurnBuffer => 0,
+            | Refusal::BurnBuffer => None,
+        }
+    }
+
+    // The index in the sheet for 3 and 4, an address for 5 to 10, else 0.
+    pub fn place(self) -> u8
+        ensures { result ≡ place_of self }
+    {
+        match self.origin() {
+            Some(Place::Sheet(index)) => index,
+            Some(Place::Image(at)) => at,
+            None => 0,
         }
     }
 
@@ -77,22 +91,9 @@ impl Refusal {
     pub fn address(self) -> Option<u8>
         ensures { result ≡ address_of self }
     {
-        match self {
-            Refusal::MainWord { at }
-            | Refusal::MainReturn { at }
-            | Refusal::MainRegister { at }
-            | Refusal::HandlerWord { at }
-            | Refusal::HandlerReturn { at }
-            | Refusal::HandlerWrite { at } => Some(at),
-            Refusal::ImageSize
-            | Refusal::SheetEnd
-            | Refusal::SheetWord { index: _ }
-            | Refusal::SheetRange { index: _ }
-            | Refusal::Depth
-            | Refusal::Register
-            | Refusal::Port
-            | Refusal::Budget
-            | Refusal::BurnBuffer => None,
+        match self.origin() {
+            Some(Place::Image(at)) => Some(at),
+            _ => None,
         }
     }
 }

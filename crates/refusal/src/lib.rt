@@ -2,6 +2,7 @@
 #![tactic(auto)]
 
 mod describe;
+mod place;
 mod refusal;
 mod text;
 
