@@ -19,12 +19,8 @@ pub named : (x : RegisterName) → register x.number ≡ x
 unfolding register
 named x = same_name (register x.number) x (omega arith)
 
-pub named_low : (x : RegisterName) (n : ℕ) → x.number ≡ n % 16 → x ≡ register n
-unfolding register
-named_low x n e = same_name x (register n) e
-
 -- a word is read by its digits
-at_digits : (o x p y w : ℕ) → x < 16 → p < 16 → y < 16 → w ≡ o * 0x1000 + x * 0x100 + p * 0x10 + y → decoded w ≡ word_form o x p y
+pub at_digits : (o x p y w : ℕ) → x < 16 → p < 16 → y < 16 → w ≡ o * 0x1000 + x * 0x100 + p * 0x10 + y → decoded w ≡ word_form o x p y
 at_digits o x p y w hx hp hy e =
     let first : w / 0x1000 ≡ o = omega arith in
     let second : w / 0x100 % 0x10 ≡ x = omega arith in
@@ -63,11 +59,10 @@ two_back o x (Register y) p h =
 
 jump_back : (c : ℕ) (s : Operand) → c < 10 → ByteOperand s → decoded (jump_to c s) ≡ jump_form c s
 jump_back c (Constant k) p h =
-    let digits : word_form 0xB c (k / 0x10) (k % 0x10) ≡ jump_form c (Constant (k / 0x10 * 0x10 + k % 0x10)) = grind arith in
-    let low = digits ∙ ap (λ (b : ℕ). jump_form c (Constant b)) (byte_of k) in
-    cc (at_constant 0xB c k (jump_to c (Constant k)) (omega arith) h refl, low)
+    let digits : word_form 0xB c (k / 0x10) (k % 0x10) ≡ jump_form c (Constant k) = grind (arith, byte_of) in
+    cc (at_constant 0xB c k _ (omega arith) h refl, digits)
 jump_back c (Register y) p h =
-    cc (at_register c 0xB y.number (jump_to c (Register y)) (omega arith) (omega arith) y.small (omega arith), named y)
+    cc (at_register c 0xB y.number _ (omega arith) (omega arith) y.small refl, named y)
 
 alu_plain : (o : AluOperation) → Plain (alu_code o)
 alu_plain o = grind arith

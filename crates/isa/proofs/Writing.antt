@@ -67,10 +67,7 @@ written_back w h i e =
     let all = word_holds (w / 0x1000) (w / 0x100 % 0x10) (w % 0x100 / 0x10) (w % 0x10) (omega arith) (omega arith) (omega arith) (omega arith) in
     subst (λ (o : Option Instruction). Has o w) e (at_word (omega arith) all).has
 
-not_some : {i : Instruction} → None ≡ Some i → ⊥
-not_some e = let z : ◌≡◌ {A = ℕ} 0 1 = cc in omega arith
-
 -- what a word is read as corresponds to it
 pub corresponds : (w : ℕ) → w < 2 ^ 16 → (r : Option Instruction) → r ≡ decoded w → Corresponds w r
 corresponds w h (Some i) e = written_back w h i (sym e)
-corresponds w h None e = λ i has. not_some (e ∙ ap decoded (sym has.1) ∙ read_back i has.0)
+corresponds w h None e = λ i has. let clash : None ≡ Some i = e ∙ ap decoded (sym has.1) ∙ read_back i has.0 in cc

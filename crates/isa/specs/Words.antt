@@ -49,15 +49,18 @@ jump_code NotNegative = 6
 jump_code Overflow = 7
 jump_code NoOverflow = 8
 
--- oXKK and FXoY: the word of code o with register X and a second operand
+-- oXKK and FXoY: the word of code o with digit X and a second operand
+abbrev pub operand_word : ℕ → ℕ → Operand → ℕ
+operand_word o x (Constant k) = o * 0x1000 + x * 0x100 + k
+operand_word o x (Register y) = 0xF000 + x * 0x100 + o * 0x10 + y.number
+
+-- the word of code o with register X and a second operand
 abbrev pub two_operand : ℕ → RegisterName → Operand → ℕ
-two_operand o x (Constant k) = o * 0x1000 + x.number * 0x100 + k
-two_operand o x (Register y) = 0xF000 + x.number * 0x100 + o * 0x10 + y.number
+two_operand o x s = operand_word o x.number s
 
 -- BcKK and FcBY: the word of jump c to an operand
 abbrev pub jump_to : ℕ → Operand → ℕ
-jump_to c (Constant k) = 0xB000 + c * 0x100 + k
-jump_to c (Register y) = 0xF0B0 + c * 0x100 + y.number
+jump_to c s = operand_word 0xB c s
 
 -- the word of an instruction
 abbrev pub encoded : Instruction → ℕ

@@ -15,51 +15,57 @@ struct Value(Operand);
 #[derive(Clone, Copy)]
 struct Address(Operand);
 
-fn alu_mnemonic(operation: AluOperation) -> &'static str
-    ensures { result.now ≡ alu_mnemonic operation }
-{
-    match operation {
-        AluOperation::Add => "ADD",
-        AluOperation::Adc => "ADC",
-        AluOperation::Sub => "SUB",
-        AluOperation::Sbc => "SBC",
-        AluOperation::And => "AND",
-        AluOperation::Or => "OR",
-        AluOperation::Xor => "XOR",
-        AluOperation::Tst => "TST",
-        AluOperation::Cmp => "CMP",
+impl fmt::Display for AluOperation {
+    ghost output = { λ o. Some (alu_mnemonic o) };
+
+    fn fmt<W: fmt::Write>(&self, f: &mut fmt::Formatter<W>) -> fmt::Result {
+        f.write_str(match self {
+            AluOperation::Add => "ADD",
+            AluOperation::Adc => "ADC",
+            AluOperation::Sub => "SUB",
+            AluOperation::Sbc => "SBC",
+            AluOperation::And => "AND",
+            AluOperation::Or => "OR",
+            AluOperation::Xor => "XOR",
+            AluOperation::Tst => "TST",
+            AluOperation::Cmp => "CMP",
+        })
     }
 }
 
-fn shift_mnemonic(operation: ShiftOperation) -> &'static str
-    ensures { result.now ≡ shift_mnemonic operation }
-{
-    match operation {
-        ShiftOperation::Sl0 => "SL0",
-        ShiftOperation::Sl1 => "SL1",
-        ShiftOperation::Sr0 => "SR0",
-        ShiftOperation::Sr1 => "SR1",
-        ShiftOperation::Asr => "ASR",
-        ShiftOperation::Rol => "ROL",
-        ShiftOperation::Ror => "ROR",
-        ShiftOperation::Rlc => "RLC",
-        ShiftOperation::Rrc => "RRC",
+impl fmt::Display for ShiftOperation {
+    ghost output = { λ o. Some (shift_mnemonic o) };
+
+    fn fmt<W: fmt::Write>(&self, f: &mut fmt::Formatter<W>) -> fmt::Result {
+        f.write_str(match self {
+            ShiftOperation::Sl0 => "SL0",
+            ShiftOperation::Sl1 => "SL1",
+            ShiftOperation::Sr0 => "SR0",
+            ShiftOperation::Sr1 => "SR1",
+            ShiftOperation::Asr => "ASR",
+            ShiftOperation::Rol => "ROL",
+            ShiftOperation::Ror => "ROR",
+            ShiftOperation::Rlc => "RLC",
+            ShiftOperation::Rrc => "RRC",
+        })
     }
 }
 
-fn jump_mnemonic(condition: Condition) -> &'static str
-    ensures { result.now ≡ jump_mnemonic condition }
-{
-    match condition {
-        Condition::Always => "JMP",
-        Condition::Zero => "JZ",
-        Condition::NotZero => "JNZ",
-        Condition::Carry => "JC",
-        Condition::NoCarry => "JNC",
-        Condition::Negative => "JN",
-        Condition::NotNegative => "JNN",
-        Condition::Overflow => "JV",
-        Condition::NoOverflow => "JNV",
+impl fmt::Display for Condition {
+    ghost output = { λ c. Some (jump_mnemonic c) };
+
+    fn fmt<W: fmt::Write>(&self, f: &mut fmt::Formatter<W>) -> fmt::Result {
+        f.write_str(match self {
+            Condition::Always => "JMP",
+            Condition::Zero => "JZ",
+            Condition::NotZero => "JNZ",
+            Condition::Carry => "JC",
+            Condition::NoCarry => "JNC",
+            Condition::Negative => "JN",
+            Condition::NotNegative => "JNN",
+            Condition::Overflow => "JV",
+            Condition::NoOverflow => "JNV",
+        })
     }
 }
 
@@ -99,13 +105,13 @@ impl fmt::Display for Instruction {
     fn fmt<W: fmt::Write>(&self, f: &mut fmt::Formatter<W>) -> fmt::Result {
         match *self {
             Instruction::Alu(operation, x, operand) => {
-                write!(f, "{} {x}, {}", alu_mnemonic(operation), Value(operand))
+                write!(f, "{operation} {x}, {}", Value(operand))
             }
             Instruction::Move(x, operand) => write!(f, "MOV {x}, {}", Value(operand)),
             Instruction::Load(x, operand) => write!(f, "MOV {x}, {}", Address(operand)),
             Instruction::Store(x, operand) => write!(f, "MOV {}, {x}", Address(operand)),
             Instruction::Jump(condition, operand) => {
-                write!(f, "{} {}", jump_mnemonic(condition), Address(operand))
+                write!(f, "{condition} {}", Address(operand))
             }
             Instruction::Call(operand) => write!(f, "JSR {}", Address(operand)),
             Instruction::Return => write!(f, "RTS"),
@@ -113,7 +119,7 @@ impl fmt::Display for Instruction {
             Instruction::DisableInterrupts => write!(f, "CLI"),
             Instruction::EnableInterrupts => write!(f, "STI"),
             Instruction::Swap(x) => write!(f, "SWP {x}"),
-            Instruction::Shift(operation, x) => write!(f, "{} {x}", shift_mnemonic(operation)),
+            Instruction::Shift(operation, x) => write!(f, "{operation} {x}"),
         }
     }
 }

@@ -1,17 +1,10 @@
 // From a word to its instruction.
-ghost use Rattle.std.specs.Prelude.{◌≡◌, ◌<◌, ◌≤◌, true, Some};
-ghost use Rattle.isa.specs.Words.{register, takes_operand, operand_form, jump_form, word_form, decoded};
+ghost use Rattle.std.specs.Prelude.{◌≡◌, ◌⊎◌, ◌<◌, ◌≤◌, true, Some};
+ghost use Rattle.isa.specs.Words.{shift_code, takes_operand, operand_form, jump_form, word_form, decoded};
 ghost use Rattle.isa.specs.Laws.{Corresponds};
 
 use crate::instruction::{AluOperation, Condition, Instruction, Operand, ShiftOperation};
 use crate::register::RegisterName;
-
-// The register that a digit names.
-fn named(digit: u8) -> RegisterName
-    ensures { result ≡ register digit }
-{
-    RegisterName::from_low_bits(digit)
-}
 
 // Whether a code takes a register and a second operand.
 fn takes_operand(code: u8) -> bool
@@ -41,7 +34,7 @@ fn two_operand(code: u8, x: RegisterName, operand: Operand) -> Instruction
         0xA => Instruction::Alu(AluOperation::Cmp, x, operand),
         0xC => Instruction::Move(x, operand),
         0xD => Instruction::Load(x, operand),
-        _ => unreachable(),
+        _ => unreachable!(),
     }
 }
 
@@ -64,53 +57,61 @@ fn jump(code: u8, operand: Operand) -> Instruction
     }
 }
 
+// The shift or rotate of a code.
+fn shift(code: u8) -> ShiftOperation
+    requires { (code < 8) ⊎ (code ≡ 9) }
+    ensures { shift_code result ≡ code }
+{
+    match code {
+        0x0 => ShiftOperation::Sl0,
+        0x1 => ShiftOperation::Sr0,
+        0x2 => ShiftOperation::Rol,
+        0x3 => ShiftOperation::Ror,
+        0x4 => ShiftOperation::Sl1,
+        0x5 => ShiftOperation::Sr1,
+        0x6 => ShiftOperation::Rlc,
+        0x7 => ShiftOperation::Rrc,
+        _ => ShiftOperation::Asr,
+    }
+}
+
 // The instruction of a word's four digits; one case collects the undefined words.
 fn by_digits(first: u8, x: u8, third: u8, y: u8) -> Option<Instruction>
     requires { (first < 16) × ((x < 16) × ((third < 16) × (y < 16))) }
     ensures { result ≡ word_form first x third y }
 {
-    let low = third * 0x10 + y;
+    let register = RegisterName::from_low_bits(x);
+    let second = RegisterName::from_low_bits(y);
+    let byte = third * 0x10 + y;
     match (first, x, third, y) {
-        (0xB, 0x0..=0x9, _, _) => Some(jump(x, Operand::Constant(low))),
+        (0xB, 0x0..=0x9, _, _) => Some(jump(x, Operand::Constant(byte))),
         (0xB, 0xA, 0x0, 0x0) => Some(Instruction::Return),
         (0xB, 0xB, 0x0, 0x0) => Some(Instruction::ReturnFromInterrupt),
         (0xB, 0xC, 0x0, 0x0) => Some(Instruction::DisableInterrupts),
         (0xB, 0xD, 0x0, 0x0) => Some(Instruction::EnableInterrupts),
-        (0x7, _, 0x0, 0x0) => Some(Instruction::Swap(named(x))),
-        (0xF, 0x0..=0x9, 0xB, _) => Some(jump(x, Operand::Register(named(y)))),
-        (0xF, _, 0x7, 0x0) => Some(Instruction::Shift(ShiftOperation::Sl0, named(x))),
-        (0xF, _, 0x7, 0x1) => Some(Instruction::Shift(ShiftOperation::Sr0, named(x))),
-        (0xF, _, 0x7, 0x2) => Some(Instruction::Shift(ShiftOperation::Rol, named(x))),
-        (0xF, _, 0x7, 0x3) => Some(Instruction::Shift(ShiftOperation::Ror, named(x))),
-        (0xF, _, 0x7, 0x4) => Some(Instruction::Shift(ShiftOperation::Sl1, named(x))),
-        (0xF, _, 0x7, 0x5) => Some(Instruction::Shift(ShiftOperation::Sr1, named(x))),
-        (0xF, _, 0x7, 0x6) => Some(Instruction::Shift(ShiftOperation::Rlc, named(x))),
-        (0xF, _, 0x7, 0x7) => Some(Instruction::Shift(ShiftOperation::Rrc, named(x))),
-        (0xF, _, 0x7, 0x9) => Some(Instruction::Shift(ShiftOperation::Asr, named(x))),
+        (0x7, _, 0x0, 0x0) => Some(Instruction::Swap(register)),
+        (0xF, 0x0..=0x9, 0xB, _) => Some(jump(x, Operand::Register(second))),
+        (0xF, _, 0x7, 0x0..=0x7 | 0x9) => Some(Instruction::Shift(shift(y), register)),
         (0xF, _, code, _) if takes_operand(code) => Some(two_operand(
             code,
-            named(x),
-            Operand::Register(named(y)),
+            register,
+            Operand::Register(second),
         )),
         (code, _, _, _) if takes_operand(code) => Some(two_operand(
             code,
-            named(x),
-            Operand::Constant(low),
+            register,
+            Operand::Constant(byte),
         )),
         _ => None,
     }
 }
 
 // The instruction that has this word; none where the word is undefined.
+#[tactic(auto, using(crate::proofs::Back::at_digits, crate::proofs::Writing::corresponds))]
 pub fn decode(word: u16) -> Option<Instruction>
     ensures reads { result ≡ decoded word }
     ensures corresponds { Corresponds word result }
 {
-    let low = (word % 0x100) as u8;
-    by_digits(
-        (word / 0x1000) as u8,
-        (word / 0x100 % 0x10) as u8,
-        low / 0x10,
-        low % 0x10,
-    )
+    let [high, low] = word.to_be_bytes();
+    by_digits(high / 0x10, high % 0x10, low / 0x10, low % 0x10)
 }

@@ -11,18 +11,18 @@ pub enum Operand {
     Constant(u8),
 }
 
-// Operations on a register and a second operand.
+// Operations on a register and a second operand, with their codes.
 #[derive(Clone, Copy, PartialEq, Eq, Debug)]
 pub enum AluOperation {
-    Add,
-    Adc,
-    Sub,
-    Sbc,
-    And,
-    Or,
-    Xor,
-    Tst,
-    Cmp,
+    Add = 0x0,
+    Adc = 0x1,
+    Sub = 0x2,
+    Sbc = 0x3,
+    And = 0x4,
+    Or = 0x5,
+    Xor = 0x6,
+    Tst = 0x8,
+    Cmp = 0xA,
 }
 
 impl AluOperation {
@@ -34,32 +34,32 @@ impl AluOperation {
     }
 }
 
-// Shifts and rotates of one register.
+// Shifts and rotates of one register, with their codes.
 #[derive(Clone, Copy, PartialEq, Eq, Debug)]
 pub enum ShiftOperation {
-    Sl0,
-    Sl1,
-    Sr0,
-    Sr1,
-    Asr,
-    Rol,
-    Ror,
-    Rlc,
-    Rrc,
+    Sl0 = 0x0,
+    Sl1 = 0x4,
+    Sr0 = 0x1,
+    Sr1 = 0x5,
+    Asr = 0x9,
+    Rol = 0x2,
+    Ror = 0x3,
+    Rlc = 0x6,
+    Rrc = 0x7,
 }
 
-// When a jump is taken.
+// When a jump is taken, with the code of the jump.
 #[derive(Clone, Copy, PartialEq, Eq, Debug)]
 pub enum Condition {
-    Always,
-    Zero,
-    NotZero,
-    Carry,
-    NoCarry,
-    Negative,
-    NotNegative,
-    Overflow,
-    NoOverflow,
+    Always = 0x0,
+    Zero = 0x1,
+    NotZero = 0x2,
+    Carry = 0x3,
+    NoCarry = 0x4,
+    Negative = 0x5,
+    NotNegative = 0x6,
+    Overflow = 0x7,
+    NoOverflow = 0x8,
 }
 
 // An instruction. Load and Store address memory by their operand, a constant address or the content of a register;

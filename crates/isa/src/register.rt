@@ -1,5 +1,5 @@
 // The name of one of the sixteen registers.
-ghost use Rattle.std.specs.Prelude.{◌≡◌, ◌%◌, ◌<◌, ◌≤◌, Ok, Err};
+ghost use Rattle.std.specs.Prelude.{◌≡◌, ◌<◌, ◌≤◌, Ok, Err};
 ghost use Rattle.refusal.specs.declared.refusal.Refusal.TheVariants.{Register as Unknown};
 
 use refusal::Refusal;
@@ -10,17 +10,23 @@ pub struct RegisterName {
     ghost small: { number < 16 },
 }
 
-impl RegisterName {
-    // The register of that number; a number above 15 is refused.
-    pub fn new(number: u8) -> Result<Self, Refusal>
-        ensures { elim result [ Ok x ↦ (number < 16) × (x.number ≡ number) | Err e ↦ (16 ≤ number) × (e ≡ Unknown) ] }
-    {
+// The register of that number; a number above 15 is refused.
+impl TryFrom<u8> for RegisterName {
+    type Error = Refusal;
+
+    ghost try_from_gives = { λ number r. elim r [ Ok x ↦ (number < 16) × (x.number ≡ number) | Err e ↦ (16 ≤ number) × (e ≡ Unknown) ] };
+
+    fn try_from(number: u8) -> Result<Self, Refusal> {
         if number < 16 {
             Ok(RegisterName { number })
         } else {
             Err(Refusal::Register)
         }
     }
+}
+
+impl RegisterName {
+    ghost use Rattle.isa.specs.Words.{register};
 
     // Its number, 0 to 15.
     pub fn number(self) -> u8
@@ -31,8 +37,9 @@ impl RegisterName {
     }
 
     // The register that the low four bits of a number name.
+    #[tactic(auto, unfolding(crate::specs::Words::register))]
     pub(crate) fn from_low_bits(number: u8) -> Self
-        ensures { result.number ≡ number % 16 }
+        ensures { result ≡ register number }
     {
         RegisterName {
             number: number % 16,

@@ -62,11 +62,11 @@ fn words_as_text(rt: HostRuntime) -> Result<(), Fail> {
 
 #[test]
 fn sixteen_registers(rt: HostRuntime) -> Result<(), Fail> {
-    let Ok(last) = RegisterName::new(15) else {
+    let Ok(last) = RegisterName::try_from(15) else {
         return Err(Fail::new("a refused register"));
     };
     assert_eq!(rt; last.number(), 15);
-    assert!(rt; matches!(RegisterName::new(16), Err(Refusal::Register)));
+    assert!(rt; matches!(RegisterName::try_from(16), Err(Refusal::Register)));
     Ok(())
 }
 
