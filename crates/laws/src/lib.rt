@@ -10,6 +10,7 @@ use isa::{Instruction, decode, encode};
 use std::alloc::{AllocError, Global};
 
 // An instruction, encoded and decoded again: itself.
+#[tactic(auto, using(isa::proofs::Back::read_back))]
 pub fn reread(instruction: Instruction) -> Option<Instruction>
     ensures all { ReadBack }
     ensures same { result ≡ Some instruction }
@@ -18,14 +19,12 @@ pub fn reread(instruction: Instruction) -> Option<Instruction>
 }
 
 // A word, decoded and encoded again: itself, or none where it is undefined.
+#[tactic(auto, using(isa::proofs::Writing::written_back))]
 pub fn rewritten(word: u16) -> Option<u16>
     ensures all { WrittenBack }
     ensures same { elim (decoded word) [ Some i ↦ result ≡ Some word | None ↦ result ≡ None ] }
 {
-    match decode(word) {
-        Some(instruction) => Some(encode(instruction)),
-        None => None,
-    }
+    decode(word).map(|instruction| encode(instruction))
 }
 
 // How many words are defined.
@@ -37,6 +36,7 @@ pub fn defined_words() -> u16
 }
 
 // The text of an instruction, which no other instruction has.
+#[tactic(auto, using(crate::proofs::Reading::different_texts))]
 pub fn text(heap: Global, instruction: Instruction) -> Result<String, AllocError>
     ensures all { DifferentTexts }
     ensures bytes { IfOk result (λ t. string_bytes t ≡ text_of instruction) }
