@@ -16,6 +16,7 @@ use Rattle.isa.specs.declared.instruction.Instruction.{Instruction}
 use Rattle.isa.specs.declared.instruction.Instruction.TheVariants.{Alu, Move, Load, Store, Jump, Call, Return, ReturnFromInterrupt, DisableInterrupts, EnableInterrupts, Swap, Shift}
 use Rattle.isa.specs.Assembly.{with_space, with_comma, alu_mnemonic, shift_mnemonic, jump_mnemonic, register_text, value_text, address_text, text_of}
 use Rattle.isa.specs.Words.{decoded}
+use Rattle.listing.proofs.Runs.{run_start_is}
 use Rattle.listing.specs.Lines.{word_text, placed, line_of, run_line_of, ended, lines_from, run_start, last_line, listing_of, LastRun, line_count, Lists}
 
 count_append : (a b : List ℕ) → line_count (a ++ b) ≡ line_count a + line_count b
@@ -148,9 +149,12 @@ counted image within =
     let w = get_or image start 0 in
     omega (arith, count_append (lines_from 0 (take start image)) (ended (last_line start w)), each_line 0 (take start image), length-take-le start image within, last start w)
 
--- the text that was written after an empty one lists the image
-pub lists_written : (image was text : List ℕ) → length image ≡ 256 → LastRun image (run_start image) → was ≡ [] → text ≡ was ++ listing_of image → Lists image text
-lists_written image was text size run empty wrote =
-    let whole : text ≡ listing_of image = wrote ∙ ap (λ (l : List ℕ). l ++ listing_of image) empty in
+-- the lines before the run and the line of the run, written after nothing, list the image
+pub lists_written : (image was before text : List ℕ) (start : ℕ) → length image ≡ 256 → LastRun image start → was ≡ [] → before ≡ was ++ lines_from 0 (take start image) → text ≡ before ++ ended (last_line start (get_or image start 0)) → Lists image text
+lists_written image was before text start size run empty front last =
+    let place : run_start image ≡ start = run_start_is image start run in
     let inside = run.inside in
-    record { size = size; whole = whole; run = run; lines = ap line_count whole ∙ counted image (omega arith) }
+    let lines : before ≡ lines_from 0 (take start image) = rw empty at front in
+    let whole : text ≡ listing_of image = rw place (rw lines at last) in
+    let here : LastRun image (run_start image) = rw place run in
+    record { size = size; whole = whole; run = here; lines = ap line_count whole ∙ counted image (omega (arith, place)) }

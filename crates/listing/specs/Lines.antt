@@ -8,9 +8,13 @@ use Rattle.isa.specs.Words.{decoded}
 abbrev pub word_text : ℕ → List ℕ
 word_text w = elim (decoded w) [ Some i ↦ text_of i | None ↦ codes "?" ]
 
+-- a word and its text
+abbrev pub contents_text : ℕ → List ℕ
+contents_text w = with_space (four_digits w) (word_text w)
+
 -- a place in the image, the word that stands there, and its text
 abbrev pub placed : List ℕ → ℕ → List ℕ
-placed place w = with_space place (with_space (four_digits w) (word_text w))
+placed place w = with_space place (contents_text w)
 
 -- the line of one word
 abbrev pub line_of : ℕ → ℕ → List ℕ

@@ -1,6 +1,6 @@
 // The lines of a listing.
 ghost use Rattle.std.specs.Prelude.{◌≡◌, Some};
-ghost use Rattle.listing.specs.Lines.{word_text, line_of, run_line_of};
+ghost use Rattle.listing.specs.Lines.{word_text, contents_text, line_of, last_line};
 
 use hexadecimal::{HexByte, HexWord};
 use isa::decode;
@@ -13,12 +13,16 @@ pub struct Line {
     pub word: u16,
 }
 
-// A run of one word from an address to the last, shown as `84..FF B000 JMP 0x00`.
+// The words from an address to the last, which are equal: shown as `84..FF B000 JMP 0x00`, and the last word alone as its line.
 #[derive(Clone, Copy)]
 pub struct Run {
     pub start: u8,
     pub word: u16,
 }
+
+// A word and its instruction, shown as `9005 MOV 0x05, r0`.
+#[derive(Clone, Copy)]
+struct Contents(u16);
 
 // The instruction of a word, or `?` where the word is undefined.
 #[derive(Clone, Copy)]
@@ -35,30 +39,32 @@ impl fmt::Display for WordText {
     }
 }
 
+impl fmt::Display for Contents {
+    ghost output = { λ c. Some (contents_text c.0) };
+
+    fn fmt<W: fmt::Write>(&self, f: &mut fmt::Formatter<W>) -> fmt::Result {
+        write!(f, "{} {}", HexWord(self.0), WordText(self.0))
+    }
+}
+
 impl fmt::Display for Line {
     ghost output = { λ l. Some (line_of l.at l.word) };
 
     fn fmt<W: fmt::Write>(&self, f: &mut fmt::Formatter<W>) -> fmt::Result {
-        write!(
-            f,
-            "{} {} {}",
-            HexByte(self.at),
-            HexWord(self.word),
-            WordText(self.word)
-        )
+        write!(f, "{} {}", HexByte(self.at), Contents(self.word))
     }
 }
 
 impl fmt::Display for Run {
-    ghost output = { λ r. Some (run_line_of r.start r.word) };
+    ghost output = { λ r. Some (last_line r.start r.word) };
 
     fn fmt<W: fmt::Write>(&self, f: &mut fmt::Formatter<W>) -> fmt::Result {
-        write!(
-            f,
-            "{}..FF {} {}",
-            HexByte(self.start),
-            HexWord(self.word),
-            WordText(self.word)
-        )
+        let start = HexByte(self.start);
+        let contents = Contents(self.word);
+        if self.start < 0xFF {
+            write!(f, "{start}..FF {contents}")
+        } else {
+            write!(f, "{start} {contents}")
+        }
     }
 }

@@ -1,8 +1,8 @@
 // The lines of a whole image.
-ghost use Rattle.std.specs.Prelude.{◌≡◌, ◌<◌, ◌≤◌, ◌≢◌, ◌++◌, length, Ok, Err, string_bytes, OnOk};
+ghost use Rattle.std.specs.Prelude.{◌≡◌, ◌<◌, ◌≤◌, ◌≢◌, ◌++◌, length, Ok, Err, string_bytes, IfOk, OnOk};
 ghost use Rattle.refusal.specs.declared.refusal.Refusal.TheVariants.{ImageSize};
 ghost use Rattle.listing.specs.declared.text.ListingError.TheVariants.{Refused, Memory};
-ghost use Rattle.listing.specs.Lines.{ended, lines_from, last_line, run_start, listing_of, LastRun, Lists};
+ghost use Rattle.listing.specs.Lines.{lines_from, LastRun, Lists};
 
 use crate::line::{Line, Run};
 use refusal::Refusal;
@@ -15,21 +15,27 @@ pub enum ListingError {
     Memory,
 }
 
+impl From<AllocError> for ListingError {
+    ghost from_gives = { λ _ e. e ≡ Memory };
+
+    fn from(_error: AllocError) -> ListingError {
+        ListingError::Memory
+    }
+}
+
 // The first address of the run of equal words at the end.
-fn run_start(image: &[u16]) -> usize
-    requires { 0 < length image.now }
+fn run_start(image: &[u16; 256]) -> usize
     ensures { LastRun image.now result }
 {
-    let mut start = 0;
-    for at in 1..image.len() {
-        if image[at] != image[start] {
-            start = at;
-        }
+    let last = image[255];
+    match image.iter().rposition(|word| *word != last) {
+        Some(at) => at + 1,
+        None => 0,
     }
-    start
 }
 
 // Adds a line for each of the words, which stand from address 0 on.
+#[tactic(auto, using(crate::proofs::Steps::one_more, crate::proofs::Steps::all_done))]
 fn write_lines(text: &mut String, words: &[u16]) -> Result<(), AllocError>
     requires { length words.now ≤ 256 }
     ensures { OnOk result (string_bytes text.new ≡ string_bytes text.old ++ lines_from 0 words.now) }
@@ -44,42 +50,30 @@ fn write_lines(text: &mut String, words: &[u16]) -> Result<(), AllocError>
     Ok(())
 }
 
-// Adds the last line, of the words from `start` on.
-fn write_last(text: &mut String, start: u8, word: u16) -> Result<(), AllocError>
-    ensures { OnOk result (string_bytes text.new ≡ string_bytes text.old ++ ended (last_line start word)) }
-{
-    if start < 0xFF {
-        writeln!(text, "{}", Run { start, word })
-    } else {
-        writeln!(text, "{}", Line { at: start, word })
-    }
-}
-
-// Adds the listing of an image.
-fn write_listing(text: &mut String, image: &[u16]) -> Result<(), AllocError>
-    requires { length image.now ≡ 256 }
-    ensures bytes { OnOk result (string_bytes text.new ≡ string_bytes text.old ++ listing_of image.now) }
-    ensures run { LastRun image.now (run_start image.now) }
+// The text that lists the words of an image.
+fn text_of(heap: Global, image: &[u16; 256]) -> Result<String, AllocError>
+    ensures { IfOk result (λ text. Lists image.now (string_bytes text)) }
 {
     let start = run_start(image);
-    write_lines(text, &image[0..start])?;
-    write_last(text, start as u8, image[start])
+    let mut text = String::new(heap);
+    write_lines(&mut text, &image[..start])?;
+    let run = Run {
+        start: start as u8,
+        word: image[start],
+    };
+    writeln!(text, "{run}")?;
+    Ok(text)
 }
 
 // The listing of an image of 256 words.
-#[tactic(auto, using(crate::proofs::Counts::lists_written))]
 pub fn listing(heap: Global, image: &[u16]) -> Result<String, ListingError>
     ensures { elim result [
       | Ok text ↦ Lists image.now (string_bytes text)
       | Err e ↦ elim e [ Refused reason ↦ (length image.now ≢ 256) × (reason ≡ ImageSize) | Memory ↦ length image.now ≡ 256 ]
     ] }
 {
-    if image.len() != 256 {
-        return Err(ListingError::Refused(Refusal::ImageSize));
-    }
-    let mut text = String::new(heap);
-    match write_listing(&mut text, image) {
-        Ok(()) => Ok(text),
-        Err(_) => Err(ListingError::Memory),
-    }
+    let image = image
+        .as_array()
+        .ok_or(ListingError::Refused(Refusal::ImageSize))?;
+    Ok(text_of(heap, image)?)
 }
