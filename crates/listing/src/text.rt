@@ -1,5 +1,5 @@
 // The lines of a whole image.
-ghost use Rattle.std.specs.Prelude.{◌≡◌, ◌<◌, ◌≤◌, ◌≢◌, ◌++◌, length, Ok, Err, string_bytes, IfOk, OnOk};
+ghost use Rattle.std.specs.Prelude.{◌≡◌, ◌≤◌, ◌≢◌, ◌++◌, length, Ok, Err, string_bytes, IfOk, OnOk};
 ghost use Rattle.refusal.specs.declared.refusal.Refusal.TheVariants.{ImageSize};
 ghost use Rattle.listing.specs.declared.text.ListingError.TheVariants.{Refused, Memory};
 ghost use Rattle.listing.specs.Lines.{lines_from, LastRun, Lists};

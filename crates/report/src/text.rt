@@ -33,10 +33,13 @@ impl fmt::Display for Report<'_> {
                 "accepted\nmain {}\nhandler {}\ntotal {}\n",
                 depths.main, depths.handler, depths.total
             ),
-            Err(refusal) => match pointed_line(self.image, refusal) {
-                Some(line) => write!(f, "{refusal}\n{line}\n"),
-                None => write!(f, "{refusal}\n"),
-            },
+            Err(refusal) => {
+                writeln!(f, "{refusal}")?;
+                match pointed_line(self.image, refusal) {
+                    Some(line) => writeln!(f, "{line}"),
+                    None => Ok(()),
+                }
+            }
         }
     }
 }
