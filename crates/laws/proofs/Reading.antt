@@ -1,5 +1,5 @@
 -- An instruction can be read from its text, so different instructions have different text.
-use Rattle.std.proofs.Common.{◌≡◌, ℕ, ◌+◌, ◌-◌, ◌*◌, ◌/◌, ◌%◌, ◌^◌, ◌<◌, Bool, false, cond, eqb, ltb, List, [], ◌∷◌, ◌++◌, drop, codes, decimal, sym, refl, ap, ◌∙◌, arith, eq-eqb, ne_eqb}
+use Rattle.std.proofs.Common.{◌≡◌, ℕ, ◌+◌, ◌-◌, ◌*◌, ◌/◌, ◌%◌, ◌^◌, ◌<◌, Bool, false, cond, eqb, ltb, List, [], ◌∷◌, ◌++◌, drop, codes, decimal, sym, refl, ap, ◌∙◌, arith, ne_eqb}
 use Rattle.std.specs.Str.Parse.{digits_value}
 use Rattle.std.proofs.lemmas.Fmt.{decimal_is_IsNumeral, decimal_by_steps}
 use Rattle.hexadecimal.specs.Hexadecimal.{digit_of, two_digits}
@@ -33,12 +33,12 @@ Lacks c [] = Unit {0}
 Lacks c (x ∷ xs) = (eqb x c ≡ false) × Lacks c xs
 
 upto_at : (c : ℕ) (a b : List ℕ) → Lacks c a → upto c (a ++ (c ∷ b)) ≡ a
-upto_at c [] b h = let e = eq-eqb c c refl in rw e
-upto_at c (x ∷ xs) b h = let e = h.0 in rw e (ap (λ (l : List ℕ). x ∷ l) (upto_at c xs b h.1))
+upto_at c [] b h = grind arith
+upto_at c (x ∷ xs) b h = let rest = upto_at c xs b h.1 in grind arith
 
 past_at : (c : ℕ) (a b : List ℕ) → Lacks c a → past c (a ++ (c ∷ b)) ≡ b
-past_at c [] b h = let e = eq-eqb c c refl in rw e
-past_at c (x ∷ xs) b h = let e = h.0 in rw e (past_at c xs b h.1)
+past_at c [] b h = grind arith
+past_at c (x ∷ xs) b h = let rest = past_at c xs b h.1 in grind arith
 
 lacks_append : (c : ℕ) (a b : List ℕ) → Lacks c a → Lacks c b → Lacks c (a ++ b)
 lacks_append c [] b p q = q
@@ -52,7 +52,7 @@ lacks_decimal c h =
     (λ n ds l rest. lacks_append c ds ((48 + n % 10) ∷ []) rest (ne_eqb (48 + n % 10) c (λ e. omega arith), tt))
 
 lacks_digit : (n : ℕ) → eqb (digit_of n) 44 ≡ false
-lacks_digit n = let l : 44 < digit_of n = grind arith in ne_eqb (digit_of n) 44 (λ e. omega arith)
+lacks_digit n = grind arith
 
 lacks_name : (c : ℕ) → c < 48 → (x : RegisterName) → Lacks c (register_text x)
 lacks_name c h x = let l = x.small in (ne_eqb 114 c (λ e. omega arith), lacks_decimal c h x.number (omega arith))
@@ -93,15 +93,15 @@ abbrev value_in : List ℕ → Operand
 value_in t = cond (eqb (first t) 114) (Register (register_in t)) (Constant (byte_value (drop 3 t)))
 
 value_back : (s : Operand) → ByteOperand s → value_in (value_text s) ≡ s
-value_back (Register y) h = ap Register (register_back y)
-value_back (Constant k) h = ap Constant (byte_back k h)
+value_back s h = grind (arith, register_back, byte_back)
 
 abbrev address_in : List ℕ → Operand
 address_in t = cond (eqb (first t) 40) (Register (register_in (upto 41 (drop 1 t)))) (Constant (byte_value (drop 2 t)))
 
 address_back : (s : Operand) → ByteOperand s → address_in (address_text s) ≡ s
 address_back (Register y) h =
-    ap (λ (t : List ℕ). Register (register_in t)) (upto_at 41 (register_text y) [] (lacks_name 41 (omega arith) y)) ∙ ap Register (register_back y)
+    let name = upto_at 41 (register_text y) [] (lacks_name 41 (omega arith) y) in
+    grind (arith, register_back)
 address_back (Constant k) h = ap Constant (byte_back k h)
 
 -- the two operands of a text, at its comma
@@ -178,37 +178,13 @@ abbrev read : List ℕ → Instruction
 read t = by_mnemonic (code 0 (upto 32 t)) (past 32 t)
 
 read_alu : (o : AluOperation) (t : List ℕ) → read (with_space (alu_mnemonic o) t) ≡ alu_in o t
-read_alu Add t = refl
-read_alu Adc t = refl
-read_alu Sub t = refl
-read_alu Sbc t = refl
-read_alu And t = refl
-read_alu Or t = refl
-read_alu Xor t = refl
-read_alu Tst t = refl
-read_alu Cmp t = refl
+read_alu o t = grind arith
 
 read_shift : (o : ShiftOperation) (t : List ℕ) → read (with_space (shift_mnemonic o) t) ≡ Shift o (register_in t)
-read_shift Sl0 t = refl
-read_shift Sl1 t = refl
-read_shift Sr0 t = refl
-read_shift Sr1 t = refl
-read_shift Asr t = refl
-read_shift Rol t = refl
-read_shift Ror t = refl
-read_shift Rlc t = refl
-read_shift Rrc t = refl
+read_shift o t = grind arith
 
 read_jump : (c : Condition) (t : List ℕ) → read (with_space (jump_mnemonic c) t) ≡ Jump c (address_in t)
-read_jump Always t = refl
-read_jump Zero t = refl
-read_jump NotZero t = refl
-read_jump Carry t = refl
-read_jump NoCarry t = refl
-read_jump Negative t = refl
-read_jump NotNegative t = refl
-read_jump Overflow t = refl
-read_jump NoOverflow t = refl
+read_jump c t = grind arith
 
 name_left : (x : RegisterName) (b : List ℕ) → register_in (left (with_comma (register_text x) b)) ≡ x
 name_left x b = ap register_in (left_back (register_text x) b (lacks_name 44 (omega arith) x)) ∙ register_back x
@@ -217,28 +193,18 @@ name_right : (x : RegisterName) (b : List ℕ) → right (with_comma (register_t
 name_right x b = right_back (register_text x) b (lacks_name 44 (omega arith) x)
 
 read_move : (x : RegisterName) (s : Operand) → ByteOperand s → move_in (with_comma (register_text x) (value_text s)) ≡ Move x s
-read_move x (Register y) h = let e = name_right x (value_text (Register y)) in rw (e, name_left x (value_text (Register y)), value_back (Register y) h)
-read_move x (Constant k) h = let e = name_right x (value_text (Constant k)) in rw (e, name_left x (value_text (Constant k)), value_back (Constant k) h)
+read_move x s h = grind (arith, name_right, name_left, value_back)
 
 read_load : (x : RegisterName) (s : Operand) → ByteOperand s → move_in (with_comma (register_text x) (address_text s)) ≡ Load x s
-read_load x (Register y) h = let e = name_right x (address_text (Register y)) in rw (e, name_left x (address_text (Register y)), address_back (Register y) h)
-read_load x (Constant k) h = let e = name_right x (address_text (Constant k)) in rw (e, name_left x (address_text (Constant k)), address_back (Constant k) h)
-
-store_parts : (x : RegisterName) (s : Operand) → ByteOperand s → Store (register_in (right (with_comma (address_text s) (register_text x)))) (address_in (left (with_comma (address_text s) (register_text x)))) ≡ Store x s
-store_parts x s h =
-    let to = left_back (address_text s) (register_text x) (lacks_address s) in
-    let from = right_back (address_text s) (register_text x) (lacks_address s) in
-    cc (ap register_in from ∙ register_back x, ap address_in to ∙ address_back s h)
+read_load x s h = grind (arith, name_right, name_left, address_back)
 
 read_store : (x : RegisterName) (s : Operand) → ByteOperand s → move_in (with_comma (address_text s) (register_text x)) ≡ Store x s
-read_store x (Register y) h = store_parts x (Register y) h
-read_store x (Constant k) h = store_parts x (Constant k) h
+read_store x s h =
+    let lacks = lacks_address s in
+    grind (arith, left_back, right_back, register_back, address_back)
 
 read_back_text : (i : Instruction) → ByteSized i → read (text_of i) ≡ i
-read_back_text (Alu o x s) h =
-    let two = with_comma (register_text x) (value_text s) in
-    let operand : value_in (right two) ≡ s = ap value_in (name_right x (value_text s)) ∙ value_back s h in
-    read_alu o two ∙ cc (name_left x (value_text s), operand)
+read_back_text (Alu o x s) h = grind (arith, read_alu, name_left, name_right, value_back)
 read_back_text (Move x s) h = read_move x s h
 read_back_text (Load x s) h = read_load x s h
 read_back_text (Store x s) h = read_store x s h
