@@ -17,7 +17,8 @@ use Rattle.machine.specs.Parts.{does, result_of, way_of, enables}
 use Rattle.vetting.specs.declared.depths.Depths.{Depths}
 use Rattle.vetting.specs.declared.rules.Rule.{Rule}
 use Rattle.vetting.specs.declared.rules.Rule.TheVariants.{MainWord, MainReturn, MainRegister, HandlerWord, HandlerReturn, HandlerWrite}
-use Rattle.vetting.specs.Programs.{Program, instruction_at, graph_of, indirect, operand_names, keeps_result, main_breaks, handler_breaks, enables as enables_word}
+use Rattle.isa.specs.Operations.{keeps_result}
+use Rattle.vetting.specs.Programs.{Program, instruction_at, graph_of, indirect, operand_names, main_breaks, handler_breaks, enables as enables_word}
 use Rattle.vetting.specs.Verdicts.{is_filled, vector, Counted, Broken, HandlerDepths, Accepted}
 use Rattle.claims.proofs.Constants.{SmallStore, small_stores}
 use Rattle.claims.proofs.Rulebooks.{Fixed, Filled, Empty, Mains, MainsOperand, MainResult, MainWay, MainMay, HandlerResult, HandlerWay, HandlerUse, HandlerMay, KeptBy}

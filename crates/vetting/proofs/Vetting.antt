@@ -15,7 +15,8 @@ use Rattle.vetting.specs.declared.depths.Depths.{Depths}
 use Rattle.vetting.specs.declared.rules.Rule.{Rule}
 use Rattle.vetting.specs.declared.rules.Rule.TheVariants.{MainWord, MainReturn, MainRegister, HandlerWord, HandlerReturn, HandlerWrite}
 use Rattle.vetting.specs.declared.rules.Breach.{Breach}
-use Rattle.vetting.specs.Programs.{Program, instruction_in, instruction_at, flow_of, graph_of, main_breaks, handler_breaks, enables}
+use Rattle.isa.specs.Images.{instruction_in}
+use Rattle.vetting.specs.Programs.{Program, instruction_at, flow_of, graph_of, main_breaks, handler_breaks, enables}
 use Rattle.vetting.specs.Verdicts.{Test, Breaks, Counted, Broken, TooDeep, Accepted, FirstBroken, main_test, handler_test, rule_number, stack_size, reset, vector}
 use Rattle.vetting.specs.Judging.{Found, FirstFound, Judged, refusal_of, ProgramRefused, depths_of}
 use Rattle.vetting.proofs.Judge.{broken_breaks, breaks_broken, breaks_below}

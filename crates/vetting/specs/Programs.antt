@@ -1,14 +1,13 @@
 -- A program: an image with its sheet. How its words lead on, and the rules that they may break.
-use Rattle.std.specs.Prelude.{ℕ, Bool, true, false, not, ◌&&◌, ◌||◌, List, map, Some, None, Option, slice_index_or}
+use Rattle.std.specs.Prelude.{ℕ, Bool, true, false, not, ◌&&◌, ◌||◌, List, Some, None, Option}
 use Rattle.isa.specs.declared.instruction.Operand.{Operand}
 use Rattle.isa.specs.declared.instruction.Operand.TheVariants.{Register, Constant}
-use Rattle.isa.specs.declared.instruction.AluOperation.{AluOperation}
-use Rattle.isa.specs.declared.instruction.AluOperation.TheVariants.{Add, Adc, Sub, Sbc, And, Or, Xor, Tst, Cmp}
 use Rattle.isa.specs.declared.instruction.Condition.{Condition}
 use Rattle.isa.specs.declared.instruction.Condition.TheVariants.{Always, Zero, NotZero, Carry, NoCarry, Negative, NotNegative, Overflow, NoOverflow}
 use Rattle.isa.specs.declared.instruction.Instruction.{Instruction}
 use Rattle.isa.specs.declared.instruction.Instruction.TheVariants.{Alu, Move, Load, Store, Jump, Call, Return, ReturnFromInterrupt, DisableInterrupts, EnableInterrupts, Swap, Shift}
-use Rattle.isa.specs.Words.{decoded}
+use Rattle.isa.specs.Images.{instruction_in}
+use Rattle.isa.specs.Operations.{keeps_result}
 use Rattle.walk.specs.declared.flow.Flow.{Flow}
 use Rattle.walk.specs.declared.flow.Flow.TheVariants.{Nowhere, Next, Branch, Jump as Jumps, Call as Calls, Return as Returns}
 use Rattle.walk.specs.Walk.{Graph}
@@ -20,10 +19,6 @@ pub record Program : Type 0 where
   pub image : List ℕ
   pub ranges : ℕ → Bool
   pub handlers : ℕ → Bool
-
--- the instruction at an address of an image; undefined words hold none, and nothing stands past the image
-abbrev pub instruction_in : List ℕ → ℕ → Option Instruction
-instruction_in image a = slice_index_or (map decoded image) a None
 
 -- the instruction at an address of a program
 abbrev pub instruction_at : Program → ℕ → Option Instruction
@@ -91,18 +86,6 @@ names test DisableInterrupts = false
 names test EnableInterrupts = false
 names test (Swap x) = test x.number
 names test (Shift s x) = test x.number
-
--- the operation writes its result into its first operand: all but TST and CMP do
-abbrev pub keeps_result : AluOperation → Bool
-keeps_result Add = true
-keeps_result Adc = true
-keeps_result Sub = true
-keeps_result Sbc = true
-keeps_result And = true
-keeps_result Or = true
-keeps_result Xor = true
-keeps_result Tst = false
-keeps_result Cmp = false
 
 -- an instruction writes a register that passes a test
 abbrev pub writes : (ℕ → Bool) → Instruction → Bool

@@ -1,11 +1,11 @@
 // From what a walk reaches to the rules that are broken there.
 ghost use Rattle.std.specs.Prelude.{◌≡◌, length};
 ghost use Rattle.vetting.specs.Judging.{broken_in, Found, Judged, refusal_of};
-ghost use Rattle.vetting.specs.Programs.{instruction_in, enables};
+ghost use Rattle.isa.specs.Images.{instruction_in};
+ghost use Rattle.vetting.specs.Programs.{enables};
 
 use crate::rulebooks::Rulebook;
 use crate::rules::{Breach, Rule};
-use crate::words;
 use isa::{Instruction, decode};
 use refusal::Refusal;
 use walk::Reach;
@@ -67,10 +67,7 @@ pub fn judge<R: Rulebook>(image: &[u16], reach: &Reach, book: &R) -> Option<Brea
 fn enables_interrupts(instruction: Option<Instruction>) -> bool
     ensures { result ≡ enables instruction }
 {
-    match instruction {
-        Some(instruction) => words::is_sti(instruction),
-        None => false,
-    }
+    instruction == Some(Instruction::EnableInterrupts)
 }
 
 // Whether an address is reached and its word enables interrupts.

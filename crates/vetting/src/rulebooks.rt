@@ -39,9 +39,9 @@ impl Rulebook for MainRules {
         };
         match rule {
             Rule::MainWord => words::goes_through_register(instruction)
-                || words::is_rti(instruction),
-            Rule::MainReturn => words::is_rts(instruction) && !filled,
-            Rule::MainRegister => words::names_handlers(instruction, &self.sheet),
+                || instruction == Instruction::ReturnFromInterrupt,
+            Rule::MainReturn => instruction == Instruction::Return && !filled,
+            Rule::MainRegister => self.sheet.names_handlers(instruction),
             Rule::HandlerWord | Rule::HandlerReturn | Rule::HandlerWrite => false,
         }
     }
@@ -59,14 +59,14 @@ impl Rulebook for HandlerRules {
             Rule::HandlerWord => {
                 words::goes_through_register(instruction)
                     || words::stores_through_register(instruction)
-                    || words::is_sti(instruction)
+                    || instruction == Instruction::EnableInterrupts
             }
             Rule::HandlerReturn => {
-                (words::is_rts(instruction) && !filled) || (words::is_rti(instruction) && filled)
+                (instruction == Instruction::Return && !filled)
+                    || (instruction == Instruction::ReturnFromInterrupt && filled)
             }
             Rule::HandlerWrite => {
-                words::writes_mains(instruction, &self.sheet)
-                    || words::stores_guarded(instruction, &self.sheet)
+                self.sheet.writes_mains(instruction) || self.sheet.stores_guarded(instruction)
             }
         }
     }

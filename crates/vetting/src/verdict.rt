@@ -2,7 +2,8 @@
 ghost use Rattle.std.specs.Prelude.{◌≡◌, ℕ, length, slice_index_or};
 ghost use Rattle.walk.specs.declared.flow.Flow.TheVariants.{Nowhere};
 ghost use Rattle.walk.specs.Result.{Walked};
-ghost use Rattle.vetting.specs.Programs.{flow_of, instruction_in};
+ghost use Rattle.isa.specs.Images.{instruction_in};
+ghost use Rattle.vetting.specs.Programs.{flow_of};
 ghost use Rattle.vetting.specs.Judging.{Small, depths_of, read_program, ProgramAnswered};
 ghost use Rattle.vetting.specs.Verdicts.{Answered, NoOther};
 

@@ -1,9 +1,9 @@
 // What vetting asks of an instruction.
 ghost use Rattle.std.specs.Prelude.{◌≡◌, false, not, slice_index_or};
-ghost use Rattle.vetting.specs.Programs.{jump_flow, call_flow, flow_of, indirect, operand_names, operand_is, keeps_result, names, writes, stores_into, goes_through_register, stores_through_register, is_rts, is_rti, is_sti};
+ghost use Rattle.vetting.specs.Programs.{jump_flow, call_flow, flow_of, indirect, operand_names, operand_is, names, writes, stores_into, goes_through_register, stores_through_register};
 
 use crate::sheet::Sheet;
-use isa::{AluOperation, Condition, Instruction, Operand};
+use isa::{Condition, Instruction, Operand};
 use walk::Flow;
 
 // Where a jump leads.
@@ -49,80 +49,69 @@ pub fn flow_of(instruction: Option<Instruction>) -> Flow
 fn is_indirect(operand: Operand) -> bool
     ensures { result ≡ indirect operand }
 {
-    match operand {
-        Operand::Register(_) => true,
-        Operand::Constant(_) => false,
-    }
+    matches!(operand, Operand::Register(_))
 }
 
-// Whether the operand is one of the handler's registers.
-fn operand_is_handlers(operand: Operand, sheet: &Sheet) -> bool
-    ensures { result ≡ operand_names (λ n. slice_index_or sheet.now.handlers n false) operand }
-{
-    match operand {
-        Operand::Register(y) => sheet.handles(y),
-        Operand::Constant(_) => false,
+impl Sheet {
+    // Whether the operand is one of the handler's registers.
+    fn handles_operand(&self, operand: Operand) -> bool
+        ensures { result ≡ operand_names (λ n. slice_index_or self.now.handlers n false) operand }
+    {
+        match operand {
+            Operand::Register(y) => self.handles(y),
+            Operand::Constant(_) => false,
+        }
     }
-}
 
-// Whether the operand is a constant address in one of main's ranges.
-fn operand_is_guarded(operand: Operand, sheet: &Sheet) -> bool
-    ensures { result ≡ operand_is (λ a. slice_index_or sheet.now.ranges a false) operand }
-{
-    match operand {
-        Operand::Register(_) => false,
-        Operand::Constant(at) => sheet.guards(at),
+    // Whether the operand is a constant address in one of main's ranges.
+    fn guards_operand(&self, operand: Operand) -> bool
+        ensures { result ≡ operand_is (λ a. slice_index_or self.now.ranges a false) operand }
+    {
+        match operand {
+            Operand::Register(_) => false,
+            Operand::Constant(at) => self.guards(at),
+        }
     }
-}
 
-// Whether an instruction names one of the handler's registers.
-pub fn names_handlers(instruction: Instruction, sheet: &Sheet) -> bool
-    ensures { result ≡ names (λ n. slice_index_or sheet.now.handlers n false) instruction }
-{
-    match instruction {
-        Instruction::Alu(_, x, operand)
-        | Instruction::Move(x, operand)
-        | Instruction::Load(x, operand)
-        | Instruction::Store(x, operand) => sheet.handles(x) || operand_is_handlers(operand, sheet),
-        Instruction::Jump(_, operand) | Instruction::Call(operand) => operand_is_handlers(
-            operand, sheet,
-        ),
-        Instruction::Swap(x) | Instruction::Shift(_, x) => sheet.handles(x),
-        _ => false,
+    // Whether an instruction names one of the handler's registers.
+    pub(crate) fn names_handlers(&self, instruction: Instruction) -> bool
+        ensures { result ≡ names (λ n. slice_index_or self.now.handlers n false) instruction }
+    {
+        match instruction {
+            Instruction::Alu(_, x, operand)
+            | Instruction::Move(x, operand)
+            | Instruction::Load(x, operand)
+            | Instruction::Store(x, operand) => self.handles(x) || self.handles_operand(operand),
+            Instruction::Jump(_, operand) | Instruction::Call(operand) => {
+                self.handles_operand(operand)
+            }
+            Instruction::Swap(x) | Instruction::Shift(_, x) => self.handles(x),
+            _ => false,
+        }
     }
-}
 
-// Whether the operation writes its result into its first operand.
-fn keeps_result(operation: AluOperation) -> bool
-    ensures { result ≡ keeps_result operation }
-{
-    match operation {
-        AluOperation::Tst | AluOperation::Cmp => false,
-        _ => true,
+    // Whether an instruction writes a register that is not the handler's.
+    pub(crate) fn writes_mains(&self, instruction: Instruction) -> bool
+        ensures { result ≡ writes (λ n. not (slice_index_or self.now.handlers n false)) instruction }
+    {
+        match instruction {
+            Instruction::Alu(operation, x, _) => operation.keeps_result() && !self.handles(x),
+            Instruction::Move(x, _)
+            | Instruction::Load(x, _)
+            | Instruction::Swap(x)
+            | Instruction::Shift(_, x) => !self.handles(x),
+            _ => false,
+        }
     }
-}
 
-// Whether an instruction writes a register that is not the handler's.
-pub fn writes_mains(instruction: Instruction, sheet: &Sheet) -> bool
-    ensures { result ≡ writes (λ n. not (slice_index_or sheet.now.handlers n false)) instruction }
-{
-    match instruction {
-        Instruction::Alu(operation, x, _) => keeps_result(operation) && !sheet.handles(x),
-        Instruction::Move(x, _)
-        | Instruction::Load(x, _)
-        | Instruction::Swap(x)
-        | Instruction::Shift(_, x) => !sheet.handles(x),
-        _ => false,
-    }
-}
-
-// Whether an instruction stores to a constant address in one of main's ranges.
-pub fn stores_guarded(instruction: Instruction, sheet: &Sheet) -> bool
-    ensures { result ≡ stores_into (λ a. slice_index_or sheet.now.ranges a false) instruction }
-{
-    match instruction {
-        Instruction::Store(_, operand) => operand_is_guarded(operand, sheet),
-        _ => false,
+    // Whether an instruction stores to a constant address in one of main's ranges.
+    pub(crate) fn stores_guarded(&self, instruction: Instruction) -> bool
+        ensures { result ≡ stores_into (λ a. slice_index_or self.now.ranges a false) instruction }
+    {
+        match instruction {
+            Instruction::Store(_, operand) => self.guards_operand(operand),
+            _ => false,
+        }
     }
 }
 
@@ -144,25 +133,4 @@ pub fn stores_through_register(instruction: Instruction) -> bool
         Instruction::Store(_, operand) => is_indirect(operand),
         _ => false,
     }
-}
-
-// Whether the instruction is RTS.
-pub fn is_rts(instruction: Instruction) -> bool
-    ensures { result ≡ is_rts instruction }
-{
-    matches!(instruction, Instruction::Return)
-}
-
-// Whether the instruction is RTI.
-pub fn is_rti(instruction: Instruction) -> bool
-    ensures { result ≡ is_rti instruction }
-{
-    matches!(instruction, Instruction::ReturnFromInterrupt)
-}
-
-// Whether the instruction is STI.
-pub fn is_sti(instruction: Instruction) -> bool
-    ensures { result ≡ is_sti instruction }
-{
-    matches!(instruction, Instruction::EnableInterrupts)
 }

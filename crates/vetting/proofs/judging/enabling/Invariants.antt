@@ -1,6 +1,7 @@
 use Rattle.std.proofs.Common.{◌≡◌, ℕ, ◌<◌, true}
 use Rattle.vetting.specs.Judging.{broken_in}
-use Rattle.vetting.specs.Programs.{instruction_in, enables}
+use Rattle.isa.specs.Images.{instruction_in}
+use Rattle.vetting.specs.Programs.{enables}
 use Rattle.vetting.proofs.judging.enabling.Given as goal
 
 abbrev pub invariant-loop-i : goal.invariant-loop-i

@@ -1,7 +1,7 @@
 use Rattle.std.proofs.Common.{◌≡◌, ℕ, true, arith}
 use Rattle.vetting.specs.declared.rules.Rule.{Rule}
 use Rattle.vetting.specs.Judging.{broken_in}
-use Rattle.vetting.specs.Programs.{instruction_in}
+use Rattle.isa.specs.Images.{instruction_in}
 use Rattle.vetting.proofs.Judge.{number_at, none_before, none_at_all}
 use Rattle.vetting.proofs.judging.judge.Goals as goal
 

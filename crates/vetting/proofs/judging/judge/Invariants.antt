@@ -1,7 +1,7 @@
 use Rattle.std.proofs.Common.{◌≡◌, ℕ, ◌<◌, true, get_or}
 use Rattle.vetting.specs.declared.rules.Rule.TheVariants.{MainWord}
 use Rattle.vetting.specs.Judging.{broken_in}
-use Rattle.vetting.specs.Programs.{instruction_in}
+use Rattle.isa.specs.Images.{instruction_in}
 use Rattle.vetting.proofs.judging.judge.Given as goal
 
 abbrev pub invariant-loop-rule : goal.invariant-loop-rule

@@ -1,6 +1,6 @@
 use Rattle.std.proofs.Common.{◌≡◌, ℕ, ◌<◌, true}
 use Rattle.vetting.specs.Judging.{broken_in}
-use Rattle.vetting.specs.Programs.{instruction_in}
+use Rattle.isa.specs.Images.{instruction_in}
 use Rattle.vetting.proofs.judging.place.Given as goal
 
 abbrev pub invariant-loop-i : goal.invariant-loop-i
