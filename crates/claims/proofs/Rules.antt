@@ -12,12 +12,12 @@ use Rattle.isa.specs.declared.instruction.Condition.{Condition}
 use Rattle.isa.specs.declared.instruction.Condition.TheVariants.{Always, Zero, NotZero, Carry, NoCarry, Negative, NotNegative, Overflow, NoOverflow}
 use Rattle.isa.specs.declared.instruction.Instruction.{Instruction}
 use Rattle.isa.specs.declared.instruction.Instruction.TheVariants.{Alu, Move, Load, Store, Jump, Call, Return, ReturnFromInterrupt, DisableInterrupts, EnableInterrupts, Swap, Shift}
+use Rattle.isa.specs.Operations.{keeps_result}
 use Rattle.walk.specs.Walk.{Longest}
 use Rattle.machine.specs.Parts.{does, result_of, way_of, enables}
 use Rattle.vetting.specs.declared.depths.Depths.{Depths}
 use Rattle.vetting.specs.declared.rules.Rule.{Rule}
 use Rattle.vetting.specs.declared.rules.Rule.TheVariants.{MainWord, MainReturn, MainRegister, HandlerWord, HandlerReturn, HandlerWrite}
-use Rattle.isa.specs.Operations.{keeps_result}
 use Rattle.vetting.specs.Programs.{Program, instruction_at, graph_of, indirect, operand_names, main_breaks, handler_breaks, enables as enables_word}
 use Rattle.vetting.specs.Verdicts.{is_filled, vector, Counted, Broken, HandlerDepths, Accepted}
 use Rattle.claims.proofs.Constants.{SmallStore, small_stores}
