@@ -1,4 +1,5 @@
 pub mod Sheets
+pub mod SheetWords
 pub mod Programs
 pub mod Verdicts
 pub mod Judging

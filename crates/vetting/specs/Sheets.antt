@@ -1,5 +1,6 @@
 -- The sheet: words of 32 bits that give main its ranges and the handler its registers.
-use Rattle.std.specs.Prelude.{◌≡◌, ℕ, ◌+◌, ◌-◌, ◌/◌, ◌%◌, ◌^◌, ◌<◌, ◌≤◌, Bool, true, false, ◌&&◌, ◌||◌, List, [], ◌∷◌, length, Ok, Err, Result, ◌==◌, ◌≢◌, nat_le, nat_lt, slice_index, slice_index_or}
+use Rattle.std.specs.Prelude.{◌≡◌, ℕ, ◌+◌, ◌-◌, ◌/◌, ◌%◌, ◌^◌, ◌<◌, ◌≤◌, Bool, true, false, ◌&&◌, ◌||◌, List, length, Ok, Err, Result, ◌==◌, ◌≢◌, nat_le, nat_lt, slice_index, slice_index_or}
+use Rattle.std.specs.List.{list_any}
 use Rattle.refusal.specs.declared.refusal.Refusal.{Refusal}
 use Rattle.refusal.specs.declared.refusal.Refusal.TheVariants.{ImageSize, SheetEnd, SheetWord, SheetRange, MainWord, MainReturn, MainRegister, HandlerWord, HandlerReturn, HandlerWrite, Depth, Register, Port, Budget, BurnBuffer}
 use Rattle.vetting.specs.declared.sheet.Sheet.{Sheet}
@@ -57,11 +58,6 @@ FirstImproper sheet i = FirstBad sheet i × (proper (slice_index sheet i) ≡ fa
 abbrev pub FirstTurned : List ℕ → ℕ → Type 0
 FirstTurned sheet i = FirstBad sheet i × (proper (slice_index sheet i) ≡ true) × (turned (slice_index sheet i) ≡ true)
 
--- some word of a list passes a test
-abbrev pub any : (ℕ → Bool) → List ℕ → Bool
-any test [] = false
-any test (w ∷ ws) = test w || any test ws
-
 -- a word is a range that holds the address
 abbrev pub covers : ℕ → ℕ → Bool
 covers a w = kind w == 0 && (nat_le (first_of w) a && nat_le a (last_of w))
@@ -72,11 +68,11 @@ gives r w = kind w == 1 && w % 2 ^ 16 / 2 ^ r % 2 == 1
 
 -- the address lies in a range of main's
 abbrev pub in_ranges : List ℕ → ℕ → Bool
-in_ranges sheet a = any (covers a) sheet
+in_ranges sheet a = list_any (covers a) sheet
 
 -- the register is the handler's
 abbrev pub handles : List ℕ → ℕ → Bool
-handles sheet r = any (gives r) sheet
+handles sheet r = list_any (gives r) sheet
 
 -- a sheet as it was read tells the ranges and the registers of its words
 pub record ReadFrom (words : List ℕ) (s : Sheet) : Type 0 where

@@ -6,6 +6,7 @@ mod judging;
 mod rulebooks;
 mod rules;
 mod sheet;
+mod sheet_word;
 mod verdict;
 mod words;
 
