@@ -1,3 +1,4 @@
+pub mod Flows
 pub mod Sheets
 pub mod Judge
 pub mod Vetting

@@ -11,7 +11,7 @@ use Rattle.vetting.specs.declared.depths.Depths.{Depths}
 use Rattle.vetting.specs.declared.rules.Rule.{Rule}
 use Rattle.vetting.specs.declared.rules.Rule.TheVariants.{MainWord, MainReturn, MainRegister, HandlerWord, HandlerReturn, HandlerWrite}
 use Rattle.vetting.specs.declared.sheet.Sheet.{Sheet}
-use Rattle.vetting.specs.Sheets.{Ended, Fine, FineBelow, FirstBad, FirstImproper, FirstTurned, ReadFrom, SheetRefused, proper}
+use Rattle.vetting.specs.Sheets.{Ended, Fine, FineBelow, FirstBad, FirstImproper, FirstTurned, SheetRead, proper}
 use Rattle.vetting.specs.Programs.{Program}
 use Rattle.vetting.specs.Verdicts.{Broken, TooDeep, Accepted, FirstBroken, InOrder, Refused, Answered, Free, Agree, program_of, rule_number, image_size}
 use Rattle.vetting.specs.Judging.{read_program, ProgramAnswered}
@@ -190,6 +190,10 @@ module _ (image sheet : List ℕ) where
   one_answer (Err r) (Ok e) x y = not_both e y.0 y.1 (why r x)
   one_answer (Err r) (Err s) x y = same_why (why r x) (why s y)
 
+  -- whatever else is answered agrees
+  pub no_other : (r s : Result Depths Refusal) → Answered image sheet s → Answered image sheet r → Agree r s
+  no_other r s y x = one_answer r s x y
+
   -- what the walks answer of the program is the answer where the image and the sheet are in order
   from_program : InOrder image sheet → (r : Result Depths Refusal) → ProgramAnswered p r → Answered image sheet r
   from_program o (Ok d) x = (o, x)
@@ -209,25 +213,9 @@ module _ (image sheet : List ℕ) where
   from_program o (Err Budget) x = absurd x
   from_program o (Err BurnBuffer) x = absurd x
 
-  pub answered : (s : Sheet) → InOrder image sheet → ReadFrom sheet s → (r : Result Depths Refusal) → ProgramAnswered (read_program image s) r → Answered image sheet r
-  answered s o read r x =
-      let same : read_program image s ≡ p = λ i. record { image = image; ranges = fun_ext read.ranges i; handlers = fun_ext read.handlers i } in
+  pub answered : (words : List ℕ) (s : Sheet) → words ≡ image → length image ≡ image_size → SheetRead sheet (Ok s) →
+      (r : Result Depths Refusal) → ProgramAnswered (read_program words s) r → Answered image sheet r
+  answered words s e long read r x =
+      let o : InOrder image sheet = record { size = long; ended = read.0; fine = read.1 } in
+      let same : read_program words s ≡ p = λ i. record { image = e i; ranges = fun_ext read.2.ranges i; handlers = fun_ext read.2.handlers i } in
       from_program o r (subst (λ (q : Program). ProgramAnswered q r) same x)
-
-  -- a sheet that is refused is refused with any image that has its size
-  pub refused : length image ≡ image_size → (r : Refusal) → SheetRefused sheet r → Refused image sheet r
-  refused long ImageSize x = absurd x
-  refused long SheetEnd x = (long, x)
-  refused long (SheetWord i) x = (long, x)
-  refused long (SheetRange i) x = (long, x)
-  refused long (main_word a) x = absurd x
-  refused long (main_return a) x = absurd x
-  refused long (main_register a) x = absurd x
-  refused long (handler_word a) x = absurd x
-  refused long (handler_return a) x = absurd x
-  refused long (handler_write a) x = absurd x
-  refused long Depth x = absurd x
-  refused long Register x = absurd x
-  refused long Port x = absurd x
-  refused long Budget x = absurd x
-  refused long BurnBuffer x = absurd x

@@ -1,36 +1,21 @@
 -- From the two walks to the verdict.
-use Rattle.std.proofs.Common.{◌≡◌, ℕ, ◌+◌, ◌<◌, ◌≤◌, Bool, true, false, ltb, List, map, length, get_or, Some, None, Option, sym, refl, ap, ◌∙◌, inl, inr, arith}
+use Rattle.std.proofs.Common.{◌≡◌, ℕ, ◌<◌, ◌≤◌, Bool, true, false, List, [], ◌∷◌, Some, None, Option, Ok, Err, Result, refl, inl, inr, arith}
 use mathlib.Core.Bool.{false≢true}
-use lib.ListN.{length-map}
-use Rattle.std.proofs.lemmas.List.{get_or_past}
-use Rattle.std.proofs.lemmas.Bool.{cases_lt, lt-ltb, le-ltb}
+use Rattle.std.specs.Result.{IsErrAnd}
+use Rattle.std.proofs.lemmas.Result.{err_from_is_err_and}
 use Rattle.isa.specs.declared.instruction.Instruction.{Instruction}
-use Rattle.isa.specs.Words.{decoded}
-use Rattle.walk.specs.declared.flow.Flow.{Flow}
-use Rattle.walk.specs.declared.flow.Flow.TheVariants.{Nowhere}
-use Rattle.walk.specs.declared.search.Reach.{Reach}
+use Rattle.refusal.specs.declared.refusal.Refusal.{Refusal}
 use Rattle.walk.specs.Walk.{Deepest}
-use Rattle.walk.specs.Result.{Walked}
 use Rattle.vetting.specs.declared.depths.Depths.{Depths}
 use Rattle.vetting.specs.declared.rules.Rule.{Rule}
 use Rattle.vetting.specs.declared.rules.Rule.TheVariants.{MainWord, MainReturn, MainRegister, HandlerWord, HandlerReturn, HandlerWrite}
 use Rattle.vetting.specs.declared.rules.Breach.{Breach}
-use Rattle.isa.specs.Images.{instruction_in}
-use Rattle.vetting.specs.Programs.{Program, instruction_at, flow_of, graph_of, main_breaks, handler_breaks, enables}
-use Rattle.vetting.specs.Verdicts.{Test, Breaks, Counted, Broken, TooDeep, Accepted, FirstBroken, main_test, handler_test, rule_number, stack_size, reset, vector}
-use Rattle.vetting.specs.Judging.{Found, FirstFound, Judged, refusal_of, ProgramRefused, depths_of}
-use Rattle.vetting.proofs.Judge.{broken_breaks, breaks_broken, breaks_below}
-
--- a table of 256 flows that is right below 256 is right everywhere
-pub flows_whole : (image : List ℕ) (flows : List Flow) → length image ≡ 256 → length flows ≡ 256 →
-    ((k : ℕ) → k < 256 → get_or flows k Nowhere ≡ flow_of (instruction_in image k)) → (a : ℕ) → get_or flows a Nowhere ≡ flow_of (instruction_in image a)
-flows_whole image flows size long same a =
-    elim (cases_lt a 256) [
-      | inl lt ↦ same a lt
-      | inr ge ↦
-          let none : instruction_in image a ≡ None = get_or_past (map decoded image) a None (simp length-map (omega arith)) in
-          get_or_past flows a Nowhere (omega arith) ∙ sym (ap flow_of none)
-    ]
+use Rattle.vetting.specs.Programs.{Program, instruction_at, graph_of, main_breaks, handler_breaks, enables}
+use Rattle.vetting.specs.Verdicts.{Test, Breaks, Counted, Broken, Accepted, FirstBroken, main_test, rule_number, stack_size, reset, vector}
+use Rattle.vetting.specs.declared.part.Part.{Part}
+use Rattle.vetting.specs.Parts.{PartOf, WordTest, TrueAt, Tells, UnbrokenBelow, FirstFound, DepthRead}
+use Rattle.vetting.specs.declared.sheet.Sheet.{Sheet}
+use Rattle.vetting.specs.Judging.{refusal_of, read_program, ProgramRefused, ProgramAnswered, depth_alone, DepthsTogether}
 
 -- main's words break main's rules only, the handler's words the handler's
 main_low : (handlers : ℕ → Bool) (rule : Rule) (i : Option Instruction) (filled : Bool) → main_breaks handlers rule i filled ≡ true → rule_number rule ≤ 7
@@ -58,112 +43,108 @@ brings p HandlerWord a f = f
 brings p HandlerReturn a f = f
 brings p HandlerWrite a f = f
 
-some_is : (x y : Depths) → Some x ≡ Some y → x ≡ y
-some_is x y e = cc
+last_number : (r : Rule) → rule_number r < 11
+last_number r = grind arith
 
-not_none : (d : Depths) → Some d ≡ None → ⊥
-not_none d e = let z : ◌≡◌ {A = ℕ} 0 1 = cc in omega arith
+-- a part tells what its walk reaches
+module _ (p : Program) (start : ℕ) (part : Part) (of : PartOf p.image start part) where
+  abbrev by_address : WordTest → Test
+  by_address test a = test (instruction_at p a)
 
-module _ (p : Program) (main : Reach) (walked : Walked (graph_of p) reset stack_size main) where
-  abbrev enabling : Test
-  enabling a filled = enables (instruction_at p a)
+  true_breaks : (test : WordTest) (a : ℕ) → TrueAt part test a → Breaks (graph_of p) start (by_address test) a
+  true_breaks test a (false, h, t) = ([], (of.walked.empty a).0 h, rw of.same at t)
+  true_breaks test a (true, h, t) = let v = (of.walked.filled a).0 h in (v.0 ∷ v.1, v.2, rw of.same at t)
 
-  pub counted : (a : ℕ) → Found main enabling (Some a) → Counted p
-  counted a h = (a, broken_breaks _ _ _ main walked enabling a h)
+  breaks_true : (test : WordTest) (a : ℕ) → Breaks (graph_of p) start (by_address test) a → (a < 256) × TrueAt part test a
+  breaks_true test a ([], v, t) = let h = (of.walked.empty a).1 v in (of.walked.within.0 a h, (false, h, rw of.same t))
+  breaks_true test a (r ∷ l, v, t) = let h = (of.walked.filled a).1 (r, l, v) in (of.walked.within.1 a h, (true, h, rw of.same t))
 
-  pub not_counted : Found main enabling None → Counted p → ⊥
-  not_counted none c =
-      none c.0 (breaks_below _ _ _ main walked enabling c.0 c.1) (breaks_broken _ _ _ main walked enabling c.0 c.1)
+  -- no situation breaks a rule of a number below n
+  unbroken_there : (breaks : Rule → WordTest) (n : ℕ) → UnbrokenBelow part breaks n → (rule : Rule) (a : ℕ) → rule_number rule < n →
+      Breaks (graph_of p) start (by_address (breaks rule)) a → ⊥
+  unbroken_there breaks n below rule a lt b = let h = breaks_true (breaks rule) a b in below.none rule a lt h.0 h.1
 
-  -- no situation of main's breaks a rule
-  unbroken_main : Judged main (main_test p) None → (rule : Rule) (a : ℕ) → Breaks (graph_of p) reset (main_test p rule) a → ⊥
-  unbroken_main none rule a b =
-      none rule a (breaks_below _ _ _ main walked (main_test p rule) a b) (breaks_broken _ _ _ main walked (main_test p rule) a b)
+-- what a refused program answers
+refused_by : (p : Program) (e : Refusal) → ProgramRefused p e → (r : Result Depths Refusal) → IsErrAnd r (λ x. x ≡ e) → ProgramAnswered p r
+refused_by p e refused r is = let y = err_from_is_err_and r is in rw (y.1, y.2) refused
 
-  pub main_refused : (b : Breach) → FirstFound main (main_test p) b → ProgramRefused p (refusal_of b.rule b.at)
-  main_refused b f =
-      let broken = broken_breaks _ _ _ main walked (main_test p b.rule) b.at f.broken in
+module _ (image : List ℕ) (sheet : Sheet) (main : Part) (of : PartOf image reset main) where
+  abbrev p : Program
+  p = read_program image sheet
+
+  counted : Tells main (λ i _. enables i) true → Counted p
+  counted on = (on.0, true_breaks p reset main of (λ i _. enables i) on.0 on.1)
+
+  not_counted : Tells main (λ i _. enables i) false → Counted p → ⊥
+  not_counted off c = let h = breaks_true p reset main of (λ i _. enables i) c.0 c.1 in off c.0 h.0 h.1
+
+  pub main_refused : (r : Result Depths Refusal) (b : Breach) → IsErrAnd r (λ e. e ≡ refusal_of b.rule b.at) → FirstFound main (main_breaks p.handlers) b → ProgramAnswered p r
+  main_refused r b is f =
+      let broken = true_breaks p reset main of (main_breaks p.handlers b.rule) b.at f.broken in
       let low = main_low p.handlers b.rule _ _ broken.2 in
-      brings p b.rule b.at (record {
+      refused_by p _ (brings p b.rule b.at (record {
         broken = inl broken;
         first = λ other a lt br. elim br [
-          | inl h ↦
-              f.first other a lt (breaks_below _ _ _ main walked (main_test p other) a h) (breaks_broken _ _ _ main walked (main_test p other) a h)
+          | inl h ↦ unbroken_there p reset main of (main_breaks p.handlers) _ f.first other a lt h
           | inr h ↦
               let high = handler_high p.handlers p.ranges other _ _ h.1.2 in
               let no : ⊥ = omega arith in
               no
         ];
-      })
+      })) r is
 
-  pub accepted_alone : (d : ℕ) → Deepest (graph_of p) reset stack_size (Some d) → Judged main (main_test p) None → Found main enabling None →
-      Accepted p (record { main = d; handler = 0; total = d })
-  accepted_alone d deep none off = record {
-    rules = λ rule a br. elim br [ inl h ↦ unbroken_main none rule a h | inr h ↦ not_counted off h.0 ];
-    main = deep.1;
-    handler = inl (not_counted off, refl, refl);
-    fits = deep.0;
-  }
+  module _ (none : UnbrokenBelow main (main_breaks p.handlers) 11) where
+    unbroken_main : (rule : Rule) (a : ℕ) → Breaks (graph_of p) reset (main_test p rule) a → ⊥
+    unbroken_main rule a = unbroken_there p reset main of (main_breaks p.handlers) 11 none rule a (last_number rule)
 
-  pub refused_alone : Deepest (graph_of p) reset stack_size None → Judged main (main_test p) None → Found main enabling None →
-      ((rule : Rule) (a : ℕ) → Broken p rule a → ⊥) × TooDeep p
-  refused_alone deep none off = (λ rule a br. elim br [ inl h ↦ unbroken_main none rule a h | inr h ↦ not_counted off h.0 ], inl deep)
+    module _ (off : Tells main (λ i _. enables i) false) where
+      unbroken_alone : (rule : Rule) (a : ℕ) → Broken p rule a → ⊥
+      unbroken_alone rule a (inl h) = unbroken_main rule a h
+      unbroken_alone rule a (inr h) = not_counted off h.0
 
-  module _ (handler : Reach) (entered : Walked (graph_of p) vector stack_size handler) (none : Judged main (main_test p) None) (at : ℕ) (on : Found main enabling (Some at)) where
-    pub handler_refused : (b : Breach) → FirstFound handler (handler_test p) b → ProgramRefused p (refusal_of b.rule b.at)
-    handler_refused b f =
-        brings p b.rule b.at (record {
-          broken = inr (counted at on, broken_breaks _ _ _ handler entered (handler_test p b.rule) b.at f.broken);
-          first = λ other a lt br. elim br [
-            | inl h ↦ unbroken_main none other a h
-            | inr h ↦
-                f.first other a lt (breaks_below _ _ _ handler entered (handler_test p other) a h.1)
-                (breaks_broken _ _ _ handler entered (handler_test p other) a h.1)
-          ];
-        })
+      pub accepted_alone : (d : ℕ) → DepthRead main (Ok d) → Accepted p (depth_alone d)
+      accepted_alone d e =
+          let deep : Deepest (graph_of p) reset stack_size (Some d) = rw e at of.walked.depth in
+          record { rules = unbroken_alone; main = deep.1; handler = inl (not_counted off, refl, refl); fits = deep.0 }
 
-    unbroken : Judged handler (handler_test p) None → (rule : Rule) (a : ℕ) → Broken p rule a → ⊥
-    unbroken others rule a br =
-        elim br [
-          | inl h ↦ unbroken_main none rule a h
-          | inr h ↦
-              others rule a (breaks_below _ _ _ handler entered (handler_test p rule) a h.1)
-              (breaks_broken _ _ _ handler entered (handler_test p rule) a h.1)
-        ]
+      pub refused_alone : (r : Result Depths Refusal) (e : Refusal) → IsErrAnd r (λ x. x ≡ e) → DepthRead main (Err e) → ProgramAnswered p r
+      refused_alone r e is n = refused_by p e (rw n.1 (unbroken_alone, inl (rw n.0 at of.walked.depth))) r is
 
-    pub accepted_both : (m h : Option ℕ) (d : Depths) → Some d ≡ depths_of m h → Deepest (graph_of p) reset stack_size m →
-        Deepest (graph_of p) vector stack_size h → Judged handler (handler_test p) None → Accepted p d
-    accepted_both None h d e x y others = absurd (let z : ◌≡◌ {A = ℕ} 0 1 = cc in omega arith)
-    accepted_both (Some m) None d e x y others = absurd (let z : ◌≡◌ {A = ℕ} 0 1 = cc in omega arith)
-    accepted_both (Some m) (Some h) d e x y others =
-        elim (cases_lt (m + h) stack_size) [
-          | inl lt ↦
-              let t : ltb (m + h) stack_size ≡ true = lt-ltb (m + h) stack_size lt in
-              let both : Depths = record { main = m; handler = h; total = m + 1 + h } in
-              let same : d ≡ both = some_is d both (rw t at e) in
-              let done : Accepted p both = record {
-                rules = unbroken others;
-                main = x.1;
-                handler = inr (counted at on, y.1, refl);
-                fits = omega arith;
-              } in
-              rw same done
-          | inr ge ↦ let t : ltb (m + h) stack_size ≡ false = le-ltb (m + h) stack_size ge in absurd (not_none d (rw t at e))
-        ]
+    module _ (on : Tells main (λ i _. enables i) true) (handler : Part) (entered : PartOf image vector handler) where
+      pub handler_refused : (r : Result Depths Refusal) (b : Breach) → IsErrAnd r (λ e. e ≡ refusal_of b.rule b.at) → FirstFound handler (handler_breaks p.handlers p.ranges) b → ProgramAnswered p r
+      handler_refused r b is f =
+          refused_by p _ (brings p b.rule b.at (record {
+            broken = inr (counted on, true_breaks p vector handler entered (handler_breaks p.handlers p.ranges b.rule) b.at f.broken);
+            first = λ other a lt br. elim br [
+              | inl h ↦ unbroken_main other a h
+              | inr h ↦ unbroken_there p vector handler entered (handler_breaks p.handlers p.ranges) _ f.first other a lt h.1
+            ];
+          })) r is
 
-    pub refused_both : (m h : Option ℕ) → None ≡ depths_of m h → Deepest (graph_of p) reset stack_size m →
-        Deepest (graph_of p) vector stack_size h → Judged handler (handler_test p) None → ((rule : Rule) (a : ℕ) → Broken p rule a → ⊥) × TooDeep p
-    refused_both m h e x y others = (unbroken others, deep m h e x y)
-      where
-        deep : (m h : Option ℕ) → None ≡ depths_of m h → Deepest (graph_of p) reset stack_size m → Deepest (graph_of p) vector stack_size h → TooDeep p
-        deep None h e x y = inl x
-        deep (Some m) None e x y =
-            let f = x.1.found in
-            inr (counted at on, (f.0, f.1, f.2, (y.0, y.1, y.2, omega (arith, y.3))))
-        deep (Some m) (Some h) e x y =
-            let f = x.1.found in
-            let g = y.1.found in
-            elim (cases_lt (m + h) stack_size) [
-              | inl lt ↦ let t : ltb (m + h) stack_size ≡ true = lt-ltb (m + h) stack_size lt in absurd (not_none _ (sym (rw t at e)))
-              | inr ge ↦ inr (counted at on, (f.0, f.1, f.2, (g.0, g.1, g.2, omega (arith, f.3, g.3))))
-            ]
+      module _ (others : UnbrokenBelow handler (handler_breaks p.handlers p.ranges) 11) where
+        unbroken_both : (rule : Rule) (a : ℕ) → Broken p rule a → ⊥
+        unbroken_both rule a (inl h) = unbroken_main rule a h
+        unbroken_both rule a (inr h) = unbroken_there p vector handler entered (handler_breaks p.handlers p.ranges) 11 others rule a (last_number rule) h.1
+
+        pub main_too_deep : (r : Result Depths Refusal) (e : Refusal) → IsErrAnd r (λ x. x ≡ e) → DepthRead main (Err e) → ProgramAnswered p r
+        main_too_deep r e is n = refused_by p e (rw n.1 (unbroken_both, inl (rw n.0 at of.walked.depth))) r is
+
+        module _ (m : ℕ) (some : DepthRead main (Ok m)) where
+          abbrev main_deep : Deepest (graph_of p) reset stack_size (Some m)
+          main_deep = rw some at of.walked.depth
+
+          pub handler_too_deep : (r : Result Depths Refusal) (e : Refusal) → IsErrAnd r (λ x. x ≡ e) → DepthRead handler (Err e) → ProgramAnswered p r
+          handler_too_deep r e is n =
+              let f = main_deep.1.found in
+              let y : Deepest (graph_of p) vector stack_size None = rw n.0 at entered.walked.depth in
+              refused_by p e (rw n.1 (unbroken_both, inr (counted on, (f.0, f.1, f.2, (y.0, y.1, y.2, omega (arith, y.3)))))) r is
+
+          pub answered_together : (h : ℕ) → DepthRead handler (Ok h) → (r : Result Depths Refusal) → DepthsTogether m h r → ProgramAnswered p r
+          answered_together h n (Ok d) t =
+              let y : Deepest (graph_of p) vector stack_size (Some h) = rw n at entered.walked.depth in
+              rw t.1 (record { rules = unbroken_both; main = main_deep.1; handler = inr (counted on, y.1, refl); fits = t.0 })
+          answered_together h n (Err r) t =
+              let f = main_deep.1.found in
+              let y : Deepest (graph_of p) vector stack_size (Some h) = rw n at entered.walked.depth in
+              let g = y.1.found in
+              rw t.1 (unbroken_both, inr (counted on, (f.0, f.1, f.2, (g.0, g.1, g.2, omega (arith, f.3, g.3, t.0)))))

@@ -1,35 +1,13 @@
--- What the sets of a walk tell of the rules: the steps from the walks to the verdict.
-use Rattle.std.specs.Prelude.{◌≡◌, ℕ, ◌+◌, ◌<◌, ◌≤◌, Bool, true, false, cond, ◌&&◌, ◌||◌, List, Some, None, Ok, Err, Option, Result, ◌≢◌, nat_lt, slice_index_or}
+-- What a sheet as it was read makes of an image, and what its walks answer.
+use Rattle.std.specs.Prelude.{◌≡◌, ℕ, ◌+◌, ◌<◌, ◌≤◌, false, List, Ok, Err, Result, slice_index_or}
 use Rattle.refusal.specs.declared.refusal.Refusal.{Refusal}
 use Rattle.refusal.specs.declared.refusal.Refusal.TheVariants.{ImageSize, SheetEnd, SheetWord, SheetRange, Depth, Register, Port, Budget, BurnBuffer, MainWord as main_word, MainReturn as main_return, MainRegister as main_register, HandlerWord as handler_word, HandlerReturn as handler_return, HandlerWrite as handler_write}
-use Rattle.walk.specs.declared.search.Reach.{Reach}
-use Rattle.walk.specs.Sets.{has}
 use Rattle.vetting.specs.declared.rules.Rule.{Rule}
 use Rattle.vetting.specs.declared.rules.Rule.TheVariants.{MainWord, MainReturn, MainRegister, HandlerWord, HandlerReturn, HandlerWrite}
-use Rattle.vetting.specs.declared.rules.Breach.{Breach}
 use Rattle.vetting.specs.declared.depths.Depths.{Depths}
 use Rattle.vetting.specs.declared.sheet.Sheet.{Sheet}
 use Rattle.vetting.specs.Programs.{Program}
-use Rattle.vetting.specs.Verdicts.{Test, Broken, TooDeep, FirstBroken, Accepted, rule_number, stack_size}
-
--- the test fails at an address in a situation that is reached, as the sets of a walk tell it
-abbrev pub broken_in : Reach → Test → ℕ → Bool
-broken_in w test a = (has w.empty a && test a false) || (has w.filled a && test a true)
-
--- an address at which the test fails, if there is one
-abbrev pub Found : Reach → Test → Option ℕ → Type 0
-Found w test (Some a) = broken_in w test a ≡ true
-Found w test None = (a : ℕ) → a < 256 → broken_in w test a ≢ true
-
--- the rule is broken at the address, and no rule of a smaller number is broken anywhere
-pub record FirstFound (w : Reach) (test : Rule → Test) (b : Breach) : Type 0 where
-  pub broken : broken_in w (test b.rule) b.at ≡ true
-  pub first : (other : Rule) (a : ℕ) → rule_number other < rule_number b.rule → a < 256 → broken_in w (test other) a ≢ true
-
--- the first rule that is broken, with an address, if one is
-abbrev pub Judged : Reach → (Rule → Test) → Option Breach → Type 0
-Judged w test (Some b) = FirstFound w test b
-Judged w test None = (rule : Rule) (a : ℕ) → a < 256 → broken_in w (test rule) a ≢ true
+use Rattle.vetting.specs.Verdicts.{Broken, TooDeep, FirstBroken, Accepted, stack_size}
 
 -- the refusal of a rule that is broken at an address
 abbrev pub refusal_of : Rule → ℕ → Refusal
@@ -67,13 +45,15 @@ abbrev pub ProgramAnswered : Program → Result Depths Refusal → Type 0
 ProgramAnswered p (Ok d) = Accepted p d
 ProgramAnswered p (Err r) = ProgramRefused p r
 
--- a depth is within the stack
-abbrev pub Small : Option ℕ → Type 0
-Small (Some d) = d ≤ stack_size
-Small None = Unit {0}
+-- the depths where main's walk alone counts
+abbrev pub depth_alone : ℕ → Depths
+depth_alone m = record { main = m; handler = 0; total = m }
 
--- the depths of two walks, with the interrupt's own place, if they fit the stack
-abbrev pub depths_of : Option ℕ → Option ℕ → Option Depths
-depths_of (Some m) (Some h) = cond (nat_lt (m + h) stack_size) (Some (record { main = m; handler = h; total = m + 1 + h })) None
-depths_of (Some m) None = None
-depths_of None h = None
+-- the depths of two walks, with the interrupt's own place
+abbrev pub depths_of : ℕ → ℕ → Depths
+depths_of m h = record { main = m; handler = h; total = m + 1 + h }
+
+-- the depths of two walks, if they fit the stack
+abbrev pub DepthsTogether : ℕ → ℕ → Result Depths Refusal → Type 0
+DepthsTogether m h (Ok d) = (m + 1 + h ≤ stack_size) × (d ≡ depths_of m h)
+DepthsTogether m h (Err r) = (stack_size < m + 1 + h) × (r ≡ Depth)

@@ -2,4 +2,5 @@ pub mod Sheets
 pub mod SheetWords
 pub mod Programs
 pub mod Verdicts
+pub mod Parts
 pub mod Judging

@@ -2,7 +2,7 @@
 #![tactic(auto)]
 
 mod depths;
-mod judging;
+mod part;
 mod rulebooks;
 mod rules;
 mod sheet;
