@@ -9,7 +9,7 @@ ghost use Rattle.vetting.specs.Parts.{PartOf, DepthRead, FoundBy, Found, Tells, 
 use crate::depths::STACK_SIZE;
 use crate::rulebooks::Rulebook;
 use crate::rules::{Breach, Rule};
-use crate::words;
+use crate::words::flow_of;
 use isa::{Instruction, decode, instruction_at};
 use refusal::Refusal;
 use walk::{Flow, Reach, walk};
@@ -24,7 +24,7 @@ const VECTOR: u8 = 1;
 fn flows_of(image: &[u16; 256]) -> [Flow; 256]
     ensures { (a : ℕ) → slice_index_or result a Nowhere ≡ flow_of (instruction_in image.now a) }
 {
-    image.map(|word| words::flow_of(decode(word)))
+    image.map(|word| flow_of(decode(word)))
 }
 
 // A part of an image: what the walk from a start reaches.
@@ -97,7 +97,7 @@ impl<'a> Part<'a> {
         self.find(|instruction, filled| book.is_broken(rule, instruction, filled))
     }
 
-    // The first rule by number that is broken, with an address, if one is.
+    // Judges the words by a rulebook: the error is the first rule by number that is broken, with an address.
     #[tactic(auto, using(crate::proofs::Judge::unbroken_more, crate::proofs::Judge::unbroken_before, crate::proofs::Judge::unbroken_all))]
     pub fn judge<R: Rulebook>(&self, book: &R) -> Result<(), Breach>
         ensures { Judged self.now (R.breaks book.now) result }

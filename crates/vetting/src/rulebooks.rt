@@ -35,7 +35,7 @@ impl Rulebook for MainRules {
 
     fn is_broken(&self, rule: Rule, instruction: Option<Instruction>, filled: bool) -> bool {
         let Some(instruction) = instruction else {
-            return matches!(rule, Rule::MainWord);
+            return rule == Rule::MainWord;
         };
         match rule {
             Rule::MainWord => words::goes_through_register(instruction)
@@ -52,7 +52,7 @@ impl Rulebook for HandlerRules {
 
     fn is_broken(&self, rule: Rule, instruction: Option<Instruction>, filled: bool) -> bool {
         let Some(instruction) = instruction else {
-            return matches!(rule, Rule::HandlerWord);
+            return rule == Rule::HandlerWord;
         };
         match rule {
             Rule::MainWord | Rule::MainReturn | Rule::MainRegister => false,

@@ -1,55 +1,28 @@
 // What vetting asks of an instruction.
 ghost use Rattle.std.specs.Prelude.{◌≡◌, false, not, slice_index_or};
-ghost use Rattle.vetting.specs.Programs.{jump_flow, call_flow, flow_of, indirect, operand_names, operand_is, names, writes, stores_into, goes_through_register, stores_through_register};
+ghost use Rattle.vetting.specs.Programs.{flow_of, operand_names, operand_is, names, writes, stores_into, goes_through_register, stores_through_register};
 
 use crate::sheet::Sheet;
 use isa::{Condition, Instruction, Operand};
 use walk::Flow;
 
-// Where a jump leads.
-fn jump_flow(condition: Condition, operand: Operand) -> Flow
-    ensures { result ≡ jump_flow condition operand }
-{
-    let Operand::Constant(target) = operand else {
-        return Flow::Nowhere;
-    };
-    match condition {
-        Condition::Always => Flow::Jump(target),
-        _ => Flow::Branch(target),
-    }
-}
-
-// Where a call leads.
-fn call_flow(operand: Operand) -> Flow
-    ensures { result ≡ call_flow operand }
-{
-    match operand {
-        Operand::Register(_) => Flow::Nowhere,
-        Operand::Constant(target) => Flow::Call(target),
-    }
-}
-
 // Where the word that holds this instruction leads; an undefined word holds none.
 pub fn flow_of(instruction: Option<Instruction>) -> Flow
     ensures { result ≡ flow_of instruction }
 {
-    let Some(instruction) = instruction else {
-        return Flow::Nowhere;
-    };
     match instruction {
-        Instruction::Jump(condition, operand) => jump_flow(condition, operand),
-        Instruction::Call(operand) => call_flow(operand),
-        Instruction::Return => Flow::Return,
-        Instruction::ReturnFromInterrupt => Flow::Nowhere,
-        _ => Flow::Next,
+        Some(Instruction::Jump(Condition::Always, Operand::Constant(target))) => Flow::Jump(target),
+        Some(Instruction::Jump(_, Operand::Constant(target))) => Flow::Branch(target),
+        Some(Instruction::Call(Operand::Constant(target))) => Flow::Call(target),
+        Some(Instruction::Return) => Flow::Return,
+        None
+        | Some(
+            Instruction::Jump(_, Operand::Register(_))
+            | Instruction::Call(Operand::Register(_))
+            | Instruction::ReturnFromInterrupt,
+        ) => Flow::Nowhere,
+        Some(_) => Flow::Next,
     }
-}
-
-// Whether the operand is a register.
-fn is_indirect(operand: Operand) -> bool
-    ensures { result ≡ indirect operand }
-{
-    matches!(operand, Operand::Register(_))
 }
 
 impl Sheet {
@@ -57,20 +30,14 @@ impl Sheet {
     fn handles_operand(&self, operand: Operand) -> bool
         ensures { result ≡ operand_names (λ n. slice_index_or self.now.handlers n false) operand }
     {
-        match operand {
-            Operand::Register(y) => self.handles(y),
-            Operand::Constant(_) => false,
-        }
+        matches!(operand, Operand::Register(y) if self.handles(y))
     }
 
     // Whether the operand is a constant address in one of main's ranges.
     fn guards_operand(&self, operand: Operand) -> bool
         ensures { result ≡ operand_is (λ a. slice_index_or self.now.ranges a false) operand }
     {
-        match operand {
-            Operand::Register(_) => false,
-            Operand::Constant(at) => self.guards(at),
-        }
+        matches!(operand, Operand::Constant(at) if self.guards(at))
     }
 
     // Whether an instruction names one of the handler's registers.
@@ -108,10 +75,7 @@ impl Sheet {
     pub(crate) fn stores_guarded(&self, instruction: Instruction) -> bool
         ensures { result ≡ stores_into (λ a. slice_index_or self.now.ranges a false) instruction }
     {
-        match instruction {
-            Instruction::Store(_, operand) => self.guards_operand(operand),
-            _ => false,
-        }
+        matches!(instruction, Instruction::Store(_, operand) if self.guards_operand(operand))
     }
 }
 
@@ -119,18 +83,15 @@ impl Sheet {
 pub fn goes_through_register(instruction: Instruction) -> bool
     ensures { result ≡ goes_through_register instruction }
 {
-    match instruction {
-        Instruction::Jump(_, operand) | Instruction::Call(operand) => is_indirect(operand),
-        _ => false,
-    }
+    matches!(
+        instruction,
+        Instruction::Jump(_, Operand::Register(_)) | Instruction::Call(Operand::Register(_)),
+    )
 }
 
 // Whether an instruction is a store whose address stands in a register.
 pub fn stores_through_register(instruction: Instruction) -> bool
     ensures { result ≡ stores_through_register instruction }
 {
-    match instruction {
-        Instruction::Store(_, operand) => is_indirect(operand),
-        _ => false,
-    }
+    matches!(instruction, Instruction::Store(_, Operand::Register(_)))
 }
