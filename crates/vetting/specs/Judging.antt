@@ -1,11 +1,12 @@
 -- What a sheet as it was read makes of an image, and what its walks answer.
-use Rattle.std.specs.Prelude.{◌≡◌, ℕ, ◌+◌, ◌<◌, ◌≤◌, false, List, Ok, Err, Result, slice_index_or}
+use Rattle.std.specs.Prelude.{◌≡◌, ℕ, ◌+◌, ◌<◌, ◌≤◌, List, Ok, Err, Result}
 use Rattle.refusal.specs.declared.refusal.Refusal.{Refusal}
 use Rattle.refusal.specs.declared.refusal.Refusal.TheVariants.{ImageSize, SheetEnd, SheetWord, SheetRange, Depth, Register, Port, Budget, BurnBuffer, MainWord as main_word, MainReturn as main_return, MainRegister as main_register, HandlerWord as handler_word, HandlerReturn as handler_return, HandlerWrite as handler_write}
 use Rattle.vetting.specs.declared.rules.Rule.{Rule}
 use Rattle.vetting.specs.declared.rules.Rule.TheVariants.{MainWord, MainReturn, MainRegister, HandlerWord, HandlerReturn, HandlerWrite}
 use Rattle.vetting.specs.declared.depths.Depths.{Depths}
 use Rattle.vetting.specs.declared.sheet.Sheet.{Sheet}
+use Rattle.vetting.specs.Sheets.{guarded, handled}
 use Rattle.vetting.specs.Programs.{Program}
 use Rattle.vetting.specs.Verdicts.{Broken, TooDeep, FirstBroken, Accepted, stack_size}
 
@@ -20,7 +21,7 @@ refusal_of HandlerWrite a = handler_write a
 
 -- the program of an image and a sheet as it was read
 abbrev pub read_program : List ℕ → Sheet → Program
-read_program image s = record { image = image; ranges = λ a. slice_index_or s.ranges a false; handlers = λ r. slice_index_or s.handlers r false }
+read_program image s = record { image = image; ranges = guarded s; handlers = handled s }
 
 -- why a program is refused, by the refusal; the walks have no others
 abbrev pub ProgramRefused : Program → Refusal → Type 0

@@ -1,5 +1,5 @@
 -- What reading a word of a sheet answers.
-use Rattle.std.specs.Prelude.{◌≡◌, ℕ, ◌/◌, ◌%◌, ◌^◌, Bool, true, false, ◌&&◌, ◌||◌, Ok, Err, Result, ◌==◌, nat_le, slice_index_or}
+use Rattle.std.specs.Prelude.{◌≡◌, ℕ, ◌/◌, ◌%◌, ◌^◌, Bool, true, false, ◌&&◌, ◌||◌, Ok, Err, Result, ◌==◌, nat_le}
 use Rattle.refusal.specs.declared.refusal.Refusal.{Refusal}
 use Rattle.refusal.specs.declared.refusal.Refusal.TheVariants.{SheetWord as sheet_word, SheetRange as sheet_range}
 use Rattle.vetting.specs.declared.sheet.Sheet.{Sheet}
@@ -8,7 +8,7 @@ use Rattle.vetting.specs.declared.sheet_word.SheetWord.{SheetWord}
 use Rattle.vetting.specs.declared.sheet_word.SheetWord.TheVariants.{Range, Registers, End}
 use Rattle.vetting.specs.declared.sheet_word.WordError.{WordError}
 use Rattle.vetting.specs.declared.sheet_word.WordError.TheVariants.{Form, Range as Turned}
-use Rattle.vetting.specs.Sheets.{Fine, proper, turned, covers, gives}
+use Rattle.vetting.specs.Sheets.{Fine, proper, turned, covers, gives, guarded, handled}
 
 -- the address is in the range
 abbrev pub is_in : AddressRange → ℕ → Bool
@@ -49,5 +49,5 @@ word_refusal Turned i = sheet_range i
 
 -- s became t as what a word says was added
 pub record Added (s : Sheet) (word : SheetWord) (t : Sheet) : Type 0 where
-  pub ranges : (a : ℕ) → slice_index_or t.ranges a false ≡ (slice_index_or s.ranges a false || says_address word a)
-  pub handlers : (r : ℕ) → slice_index_or t.handlers r false ≡ (slice_index_or s.handlers r false || says_register word r)
+  pub ranges : (a : ℕ) → guarded t a ≡ (guarded s a || says_address word a)
+  pub handlers : (r : ℕ) → handled t r ≡ (handled s r || says_register word r)

@@ -74,10 +74,18 @@ in_ranges sheet a = list_any (covers a) sheet
 abbrev pub handles : List ℕ → ℕ → Bool
 handles sheet r = list_any (gives r) sheet
 
+-- the address lies in a range of the sheet as it was read
+abbrev pub guarded : Sheet → ℕ → Bool
+guarded s a = slice_index_or s.ranges a false
+
+-- the register is the handler's by the sheet as it was read
+abbrev pub handled : Sheet → ℕ → Bool
+handled s r = slice_index_or s.handlers r false
+
 -- a sheet as it was read tells the ranges and the registers of its words
 pub record ReadFrom (words : List ℕ) (s : Sheet) : Type 0 where
-  pub ranges : (a : ℕ) → slice_index_or s.ranges a false ≡ in_ranges words a
-  pub handlers : (r : ℕ) → slice_index_or s.handlers r false ≡ handles words r
+  pub ranges : (a : ℕ) → guarded s a ≡ in_ranges words a
+  pub handlers : (r : ℕ) → handled s r ≡ handles words r
 
 -- why a sheet is refused, by the refusal; reading has no others
 abbrev pub SheetRefused : List ℕ → Refusal → Type 0

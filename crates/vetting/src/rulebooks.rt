@@ -2,6 +2,7 @@
 ghost use Rattle.std.specs.Prelude.{◌≡◌, Bool, false, Option, slice_index_or};
 ghost use Rattle.isa.specs.declared.instruction.Instruction.{Instruction};
 ghost use Rattle.vetting.specs.declared.rules.Rule.{Rule};
+ghost use Rattle.vetting.specs.Sheets.{guarded, handled};
 ghost use Rattle.vetting.specs.Programs.{main_breaks, handler_breaks};
 
 use crate::rules::Rule;
@@ -31,7 +32,7 @@ pub struct HandlerRules {
 }
 
 impl Rulebook for MainRules {
-    ghost breaks = { λ s. main_breaks (λ n. slice_index_or s.sheet.handlers n false) };
+    ghost breaks = { λ s. main_breaks (handled s.sheet) };
 
     fn is_broken(&self, rule: Rule, instruction: Option<Instruction>, filled: bool) -> bool {
         let Some(instruction) = instruction else {
@@ -48,7 +49,7 @@ impl Rulebook for MainRules {
 }
 
 impl Rulebook for HandlerRules {
-    ghost breaks = { λ s. handler_breaks (λ n. slice_index_or s.sheet.handlers n false) (λ a. slice_index_or s.sheet.ranges a false) };
+    ghost breaks = { λ s. handler_breaks (handled s.sheet) (guarded s.sheet) };
 
     fn is_broken(&self, rule: Rule, instruction: Option<Instruction>, filled: bool) -> bool {
         let Some(instruction) = instruction else {

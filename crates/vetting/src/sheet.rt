@@ -1,6 +1,6 @@
 // Sheets, read from their words.
 ghost use Rattle.std.specs.Prelude.{◌≡◌, ℕ, ◌<◌, ◌≤◌, true, false, [], length, ◌==◌, ◌||◌, slice_index_or};
-ghost use Rattle.vetting.specs.Sheets.{Ended, ReadFrom, SheetRead};
+ghost use Rattle.vetting.specs.Sheets.{Ended, ReadFrom, SheetRead, guarded, handled};
 ghost use Rattle.vetting.specs.SheetWords.{Added, is_in, is_set};
 
 use crate::sheet_word::{AddressRange, SheetWord, is_end};
@@ -41,7 +41,7 @@ impl Sheet {
 
     // Adds the addresses of a range.
     fn add_range(&mut self, range: AddressRange)
-        ensures ranges { (a : ℕ) → slice_index_or self.new.ranges a false ≡ (slice_index_or self.old.ranges a false || is_in range a) }
+        ensures ranges { (a : ℕ) → guarded self.new a ≡ (guarded self.old a || is_in range a) }
         ensures handlers { self.new.handlers ≡ self.old.handlers }
     {
         self.ranges[range.first as usize..=range.last as usize].fill(true);
@@ -51,7 +51,7 @@ impl Sheet {
     #[tactic(auto, using(crate::proofs::Sheets::all_bits))]
     fn add_registers(&mut self, bits: u16)
         ensures ranges { self.new.ranges ≡ self.old.ranges }
-        ensures handlers { (r : ℕ) → slice_index_or self.new.handlers r false ≡ (slice_index_or self.old.handlers r false || is_set bits r) }
+        ensures handlers { (r : ℕ) → handled self.new r ≡ (handled self.old r || is_set bits r) }
     {
         for register in 0..16 {
             if (bits >> register) % 2 == 1 {
@@ -88,14 +88,14 @@ impl Sheet {
 
     // Whether an address lies in a range of main's.
     pub fn guards(&self, at: u8) -> bool
-        ensures { result ≡ slice_index_or self.now.ranges at false }
+        ensures { result ≡ guarded self.now at }
     {
         self.ranges[at as usize]
     }
 
     // Whether a register is the handler's.
     pub fn handles(&self, register: RegisterName) -> bool
-        ensures { result ≡ slice_index_or self.now.handlers register.number false }
+        ensures { result ≡ handled self.now register.number }
     {
         self.handlers[register.number() as usize]
     }

@@ -1,5 +1,6 @@
 // What vetting asks of an instruction.
 ghost use Rattle.std.specs.Prelude.{◌≡◌, false, not, slice_index_or};
+ghost use Rattle.vetting.specs.Sheets.{guarded, handled};
 ghost use Rattle.vetting.specs.Programs.{flow_of, operand_names, operand_is, names, writes, stores_into, goes_through_register, stores_through_register};
 
 use crate::sheet::Sheet;
@@ -28,21 +29,21 @@ pub fn flow_of(instruction: Option<Instruction>) -> Flow
 impl Sheet {
     // Whether the operand is one of the handler's registers.
     fn handles_operand(&self, operand: Operand) -> bool
-        ensures { result ≡ operand_names (λ n. slice_index_or self.now.handlers n false) operand }
+        ensures { result ≡ operand_names (handled self.now) operand }
     {
         matches!(operand, Operand::Register(y) if self.handles(y))
     }
 
     // Whether the operand is a constant address in one of main's ranges.
     fn guards_operand(&self, operand: Operand) -> bool
-        ensures { result ≡ operand_is (λ a. slice_index_or self.now.ranges a false) operand }
+        ensures { result ≡ operand_is (guarded self.now) operand }
     {
         matches!(operand, Operand::Constant(at) if self.guards(at))
     }
 
     // Whether an instruction names one of the handler's registers.
     pub(crate) fn names_handlers(&self, instruction: Instruction) -> bool
-        ensures { result ≡ names (λ n. slice_index_or self.now.handlers n false) instruction }
+        ensures { result ≡ names (handled self.now) instruction }
     {
         match instruction {
             Instruction::Alu(_, x, operand)
@@ -59,7 +60,7 @@ impl Sheet {
 
     // Whether an instruction writes a register that is not the handler's.
     pub(crate) fn writes_mains(&self, instruction: Instruction) -> bool
-        ensures { result ≡ writes (λ n. not (slice_index_or self.now.handlers n false)) instruction }
+        ensures { result ≡ writes (λ r. not (handled self.now r)) instruction }
     {
         match instruction {
             Instruction::Alu(operation, x, _) => operation.keeps_result() && !self.handles(x),
@@ -73,7 +74,7 @@ impl Sheet {
 
     // Whether an instruction stores to a constant address in one of main's ranges.
     pub(crate) fn stores_guarded(&self, instruction: Instruction) -> bool
-        ensures { result ≡ stores_into (λ a. slice_index_or self.now.ranges a false) instruction }
+        ensures { result ≡ stores_into (guarded self.now) instruction }
     {
         matches!(instruction, Instruction::Store(_, operand) if self.guards_operand(operand))
     }
