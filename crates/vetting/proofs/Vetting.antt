@@ -1,6 +1,5 @@
 -- From the two walks to the verdict.
 use Rattle.std.proofs.Common.{◌≡◌, ℕ, ◌<◌, ◌≤◌, Bool, true, false, List, [], ◌∷◌, Some, None, Option, Ok, Err, Result, refl, inl, inr, arith}
-use mathlib.Core.Bool.{false≢true}
 use Rattle.std.specs.Result.{IsErrAnd}
 use Rattle.std.proofs.lemmas.Result.{err_from_is_err_and}
 use Rattle.isa.specs.declared.instruction.Instruction.{Instruction}
@@ -19,20 +18,10 @@ use Rattle.vetting.specs.Judging.{refusal_of, read_program, ProgramRefused, Prog
 
 -- main's words break main's rules only, the handler's words the handler's
 main_low : (handlers : ℕ → Bool) (rule : Rule) (i : Option Instruction) (filled : Bool) → main_breaks handlers rule i filled ≡ true → rule_number rule ≤ 7
-main_low handlers MainWord i filled h = omega arith
-main_low handlers MainReturn i filled h = omega arith
-main_low handlers MainRegister i filled h = omega arith
-main_low handlers HandlerWord i filled h = absurd (false≢true h)
-main_low handlers HandlerReturn i filled h = absurd (false≢true h)
-main_low handlers HandlerWrite i filled h = absurd (false≢true h)
+main_low handlers rule i filled h = grind arith
 
 handler_high : (handlers ranges : ℕ → Bool) (rule : Rule) (i : Option Instruction) (filled : Bool) → handler_breaks handlers ranges rule i filled ≡ true → 8 ≤ rule_number rule
-handler_high handlers ranges MainWord i filled h = absurd (false≢true h)
-handler_high handlers ranges MainReturn i filled h = absurd (false≢true h)
-handler_high handlers ranges MainRegister i filled h = absurd (false≢true h)
-handler_high handlers ranges HandlerWord i filled h = omega arith
-handler_high handlers ranges HandlerReturn i filled h = omega arith
-handler_high handlers ranges HandlerWrite i filled h = omega arith
+handler_high handlers ranges rule i filled h = grind arith
 
 -- a rule that is first broken brings its refusal
 brings : (p : Program) (rule : Rule) (a : ℕ) → FirstBroken p rule a → ProgramRefused p (refusal_of rule a)
