@@ -1,19 +1,19 @@
 -- The three images. In each of them main reaches address 0 only.
-use Rattle.std.proofs.Common.{◌≡◌, ℕ, zero, suc, ◌<◌, Bool, true, false, List, [], ◌∷◌, length, Ok, Err, Result, sym, refl, ap, ◌∙◌, inl, inr, zero-le, arith}
+use Rattle.std.proofs.Common.{◌≡◌, ℕ, zero, suc, ◌<◌, Bool, true, false, List, [], ◌∷◌, length, Ok, Err, Result, sym, refl, ap, ◌∙◌, subst, inl, inr, zero-le, arith}
 use mathlib.Core.Bool.{false≢true}
 use Rattle.refusal.specs.declared.refusal.Refusal.{Refusal}
-use Rattle.refusal.specs.declared.refusal.Refusal.TheVariants.{ImageSize, SheetEnd, SheetWord, SheetRange, MainWord as main_word, MainReturn as main_return, MainRegister as main_register, HandlerWord as handler_word, HandlerReturn as handler_return, HandlerWrite as handler_write, Depth, Register, Port, Budget, BurnBuffer}
-use Rattle.refusal.specs.Refusals.{number_of}
-use Rattle.walk.specs.declared.flow.Flow.TheVariants.{Jump, Call, Return}
+use Rattle.refusal.specs.declared.refusal.Refusal.TheVariants.{MainReturn as main_return, Depth}
+use Rattle.refusal.specs.Refusals.{number_of, place_of}
 use Rattle.walk.specs.Walk.{Leads, Reaches}
 use Rattle.vetting.specs.declared.depths.Depths.{Depths}
 use Rattle.vetting.specs.declared.rules.Rule.{Rule}
-use Rattle.vetting.specs.declared.rules.Rule.TheVariants.{MainWord, MainReturn, MainRegister, HandlerWord, HandlerReturn, HandlerWrite}
+use Rattle.vetting.specs.declared.rules.Rule.TheVariants.{MainReturn}
 use Rattle.vetting.specs.Sheets.{Ended, FineBelow}
 use Rattle.vetting.specs.Programs.{Program, graph_of, instruction_at, enables}
 use Rattle.vetting.specs.Verdicts.{Breaks, Counted, Broken, InOrder, Refused, Answered, program_of, main_test, is_filled, rule_number, reset}
 use Rattle.vetting.proofs.Unique.{one_answer}
-use Rattle.examples.specs.Worked.{with_first, lone_end, no_depth, SoleAnswer, WorkedAnswer}
+use Rattle.examples.specs.Worked.{with_first, lone_end, no_depth, SoleAnswer, WorkedExamples, WorkedAnswer}
+use Rattle.examples.proofs.Words.{load, add, store, rotate, undefined}
 
 ended : Ended lone_end
 ended = record {
@@ -53,56 +53,28 @@ module _ (w : ℕ) (stays : Stays w) where
 jump_stays : {a : ℕ} {l : List ℕ} → Reaches (graph_of (p 0xB000)) reset a l → (a ≡ 0) × (l ≡ [])
 jump_stays Reaches.begin = (refl, refl)
 jump_stays (Reaches.on w (Leads.goes g)) = let h = jump_stays w in (rw h.0 at g, h.1)
-jump_stays (Reaches.on w (Leads.calls {t = t} e)) = absurd (no t (rw (jump_stays w).0 at e))
-  where
-    no : (t : ℕ) → Jump 0 ≡ Call t → ⊥
-    no t e = let z : ◌≡◌ {A = ℕ} 0 1 = cc in omega arith
-jump_stays (Reaches.on w (Leads.returns e)) = absurd (no (rw (jump_stays w).0 at e))
-  where
-    no : Jump 0 ≡ Return → ⊥
-    no e = let z : ◌≡◌ {A = ℕ} 0 1 = cc in omega arith
+jump_stays (Reaches.on w (Leads.calls e)) = cc (rw (jump_stays w).0 at e)
+jump_stays (Reaches.on w (Leads.returns e)) = cc (rw (jump_stays w).0 at e)
 
 jump_rules : (rule : Rule) (filled : Bool) → main_test (p 0xB000) rule 0 filled ≡ false
-jump_rules MainWord filled = refl
-jump_rules MainReturn filled = refl
-jump_rules MainRegister filled = refl
-jump_rules HandlerWord filled = refl
-jump_rules HandlerReturn filled = refl
-jump_rules HandlerWrite filled = refl
+jump_rules rule filled = grind arith
 
 -- a return first
 return_stays : {a : ℕ} {l : List ℕ} → Reaches (graph_of (p 0xBA00)) reset a l → (a ≡ 0) × (l ≡ [])
 return_stays Reaches.begin = (refl, refl)
 return_stays (Reaches.on w (Leads.goes g)) = absurd (rw (return_stays w).0 at g)
-return_stays (Reaches.on w (Leads.calls {t = t} e)) = absurd (no t (rw (return_stays w).0 at e))
-  where
-    no : (t : ℕ) → Return ≡ Call t → ⊥
-    no t e = let z : ◌≡◌ {A = ℕ} 0 1 = cc in omega arith
-return_stays (Reaches.on {l = r ∷ l} w (Leads.returns e)) = absurd (no (return_stays w).1)
-  where
-    no : {r : ℕ} {l : List ℕ} → r ∷ l ≡ [] → ⊥
-    no e = let z : ◌≡◌ {A = ℕ} 0 1 = cc in omega arith
+return_stays (Reaches.on w (Leads.calls e)) = cc (rw (return_stays w).0 at e)
+return_stays (Reaches.on {l = r ∷ l} w (Leads.returns e)) = cc (return_stays w).1
 
 -- a call of 0 first
 call_stays : {a : ℕ} {l : List ℕ} → Reaches (graph_of (p 0xB900)) reset a l → a ≡ 0
 call_stays Reaches.begin = refl
 call_stays (Reaches.on w (Leads.goes g)) = absurd (rw (call_stays w) at g)
-call_stays (Reaches.on w (Leads.calls {t = t} e)) = target t (rw (call_stays w) at e)
-  where
-    target : (t : ℕ) → Call 0 ≡ Call t → t ≡ 0
-    target t e = cc
-call_stays (Reaches.on w (Leads.returns e)) = absurd (no (rw (call_stays w) at e))
-  where
-    no : Call 0 ≡ Return → ⊥
-    no e = let z : ◌≡◌ {A = ℕ} 0 1 = cc in omega arith
+call_stays (Reaches.on w (Leads.calls e)) = cc (rw (call_stays w) at e)
+call_stays (Reaches.on w (Leads.returns e)) = cc (rw (call_stays w) at e)
 
 call_rules : (rule : Rule) (filled : Bool) → main_test (p 0xB900) rule 0 filled ≡ false
-call_rules MainWord filled = refl
-call_rules MainReturn filled = refl
-call_rules MainRegister filled = refl
-call_rules HandlerWord filled = refl
-call_rules HandlerReturn filled = refl
-call_rules HandlerWrite filled = refl
+call_rules rule filled = grind arith
 
 deeper : (k : ℕ) → (l : List ℕ) × (length l ≡ k) × Reaches (graph_of (p 0xB900)) reset 0 l
 deeper zero = ([], refl, Reaches.begin)
@@ -156,33 +128,19 @@ return_first = record { fits = fits; sole = sole }
     )
       where
         earlier : (other : Rule) → rule_number other < 6 → (filled : Bool) → main_test (p 0xBA00) other 0 filled ≡ false
-        earlier MainWord lt filled = refl
-        earlier MainReturn lt filled = absurd (let no : ⊥ = omega arith in no)
-        earlier MainRegister lt filled = absurd (let no : ⊥ = omega arith in no)
-        earlier HandlerWord lt filled = refl
-        earlier HandlerReturn lt filled = refl
-        earlier HandlerWrite lt filled = refl
+        earlier other lt filled = grind arith
 
     at_zero : (a : ℕ) → Broken (p 0xBA00) MainReturn a → a ≡ 0
     at_zero a (inl b) = (return_stays b.1).0
     at_zero a (inr b) = absurd (not_counted 0xBA00 (λ a l r. (return_stays r).0) refl b.0)
 
+    a_return : (r : Refusal) → number_of r ≡ 6 → r ≡ main_return (place_of r)
+    a_return r e = grind arith
+
     place : (r : Refusal) → number_of r ≡ 6 → Refused (with_first 0xBA00) lone_end r → r ≡ main_return 0
-    place (main_return a) e x = ap (λ (b : ℕ). main_return b) (at_zero a x.1.broken)
-    place ImageSize e x = cc
-    place SheetEnd e x = cc
-    place (SheetWord i) e x = cc
-    place (SheetRange i) e x = cc
-    place (main_word a) e x = cc
-    place (main_register a) e x = cc
-    place (handler_word a) e x = cc
-    place (handler_return a) e x = cc
-    place (handler_write a) e x = cc
-    place Depth e x = cc
-    place Register e x = cc
-    place Port e x = cc
-    place Budget e x = cc
-    place BurnBuffer e x = cc
+    place r e x =
+        let same = a_return r e in
+        same ∙ ap (λ (a : ℕ). main_return a) (at_zero (place_of r) (subst (Refused (with_first 0xBA00) lone_end) same x).1.broken)
 
     sole : (other : Result Depths Refusal) → Answered (with_first 0xBA00) lone_end other → other ≡ Err (main_return 0)
     sole (Ok d) x = absurd (one_answer (with_first 0xBA00) lone_end (Ok d) (Err (main_return 0)) x fits)
@@ -193,4 +151,18 @@ worked first r x = record {
   jumps = λ e. jumps.sole r (rw e at x);
   return_first = λ e. return_first.sole r (rw e at x);
   call_first = λ e. call_first.sole r (rw e at x);
+}
+
+-- the examples, together
+pub examples : WorkedExamples
+examples = record {
+  load = load;
+  add = add;
+  store = store;
+  rotate = rotate;
+  swap_with_low_bits = undefined 0x7201 refl;
+  control_past_sti = undefined 0xBE00 refl;
+  jumps = jumps;
+  return_first = return_first;
+  call_first = call_first;
 }

@@ -1,21 +1,17 @@
 -- The words of the examples.
-use Rattle.std.proofs.Common.{◌≡◌, ℕ, Some, None, codes, sym, refl, ap, ◌∙◌, arith}
+use Rattle.std.proofs.Common.{◌≡◌, ℕ, None, codes, refl, arith}
 use Rattle.std.specs.Fmt.{digits}
 use Rattle.isa.specs.declared.instruction.AluOperation.TheVariants.{Add}
 use Rattle.isa.specs.declared.instruction.ShiftOperation.TheVariants.{Rol}
 use Rattle.isa.specs.declared.instruction.Operand.TheVariants.{Register, Constant}
-use Rattle.isa.specs.declared.instruction.Instruction.{Instruction}
 use Rattle.isa.specs.declared.instruction.Instruction.TheVariants.{Alu, Load, Store, Shift}
 use Rattle.isa.specs.Words.{register, decoded}
 use Rattle.isa.proofs.Back.{read_back}
 use Rattle.examples.specs.Worked.{Written, Undefined}
 
-not_some : {i : Instruction} → None ≡ Some i → ⊥
-not_some e = let z : ◌≡◌ {A = ℕ} 0 1 = cc in omega arith
-
 -- a word that is read as nothing is no instruction's
 pub undefined : (w : ℕ) → decoded w ≡ None → Undefined w
-undefined w e i has = not_some (sym e ∙ ap decoded (sym has.1) ∙ read_back i has.0)
+undefined w e i has = cc (e, has.1, read_back i has.0)
 
 pub load : Written (codes "MOV r0, 0x00") (Load (register 0) (Constant 0x00)) 0xD000
 unfolding register digits

@@ -9,7 +9,7 @@ use vetting::{Depths, vet};
 
 // Vets 256 words, the first as given and the others JMP 0x00, with the end word alone as the sheet: three of these images
 // are worked examples. The examples hold together of the definitions that all contracts cite.
-#[tactic(auto, using(crate::proofs::Images::worked))]
+#[tactic(auto, using(crate::proofs::Images::examples, crate::proofs::Images::worked))]
 pub fn worked_examples(first: u16) -> Result<Depths, Refusal>
     ensures examples { WorkedExamples }
     ensures answer { Answered (with_first first) lone_end result }
