@@ -10,11 +10,11 @@ use Rattle.vetting.specs.declared.rules.Rule.{Rule}
 use Rattle.vetting.specs.declared.rules.Rule.TheVariants.{MainWord, MainReturn, MainRegister, HandlerWord, HandlerReturn, HandlerWrite}
 use Rattle.vetting.specs.declared.rules.Breach.{Breach}
 use Rattle.vetting.specs.Programs.{Program, instruction_at, graph_of, main_breaks, handler_breaks, enables}
-use Rattle.vetting.specs.Verdicts.{Test, Breaks, Counted, Broken, Accepted, FirstBroken, main_test, rule_number, stack_size, reset, vector}
+use Rattle.vetting.specs.Verdicts.{Test, Breaks, Counted, Broken, FirstBroken, main_test, rule_number, stack_size, reset, vector}
 use Rattle.vetting.specs.declared.part.Part.{Part}
-use Rattle.vetting.specs.Parts.{PartOf, WordTest, TrueAt, Tells, UnbrokenBelow, FirstFound, DepthRead}
+use Rattle.vetting.specs.Parts.{PartOf, WordTest, TrueAt, Tells, UnbrokenBelow, FirstFound}
 use Rattle.vetting.specs.declared.sheet.Sheet.{Sheet}
-use Rattle.vetting.specs.Judging.{refusal_of, read_program, ProgramRefused, ProgramAnswered, depth_alone, DepthsTogether}
+use Rattle.vetting.specs.Judging.{refusal_of, read_program, ProgramRefused, ProgramAnswered, DepthsAlone, DepthsTogether}
 
 -- main's words break main's rules only, the handler's words the handler's
 main_low : (handlers : ℕ → Bool) (rule : Rule) (i : Option Instruction) (filled : Bool) → main_breaks handlers rule i filled ≡ true → rule_number rule ≤ 7
@@ -91,13 +91,14 @@ module _ (image : List ℕ) (sheet : Sheet) (main : Part) (of : PartOf image res
       unbroken_alone rule a (inl h) = unbroken_main rule a h
       unbroken_alone rule a (inr h) = not_counted off h.0
 
-      pub accepted_alone : (d : ℕ) → DepthRead main (Ok d) → Accepted p (depth_alone d)
-      accepted_alone d e =
-          let deep : Deepest (graph_of p) reset stack_size (Some d) = rw e at of.walked.depth in
-          record { rules = unbroken_alone; main = deep.1; handler = inl (not_counted off, refl, refl); fits = deep.0 }
-
-      pub refused_alone : (r : Result Depths Refusal) (e : Refusal) → IsErrAnd r (λ x. x ≡ e) → DepthRead main (Err e) → ProgramAnswered p r
-      refused_alone r e is n = refused_by p e (rw n.1 (unbroken_alone, inl (rw n.0 at of.walked.depth))) r is
+      pub answered_alone : (r : Result Depths Refusal) → DepthsAlone main.reach.depth r → ProgramAnswered p r
+      answered_alone r = go main.reach.depth of.walked.depth r
+        where
+          go : (depth : Option ℕ) → Deepest (graph_of p) reset stack_size depth → (r : Result Depths Refusal) → DepthsAlone depth r → ProgramAnswered p r
+          go (Some m) deep (Ok d) e = rw e (record { rules = unbroken_alone; main = deep.1; handler = inl (not_counted off, refl, refl); fits = deep.0 })
+          go (Some m) deep (Err r) e = absurd e
+          go None deep (Ok d) e = absurd e
+          go None deep (Err r) e = rw e (unbroken_alone, inl deep)
 
     module _ (on : Tells main (λ i _. enables i) true) (handler : Part) (entered : PartOf image vector handler) where
       pub handler_refused : (r : Result Depths Refusal) (b : Breach) → IsErrAnd r (λ e. e ≡ refusal_of b.rule b.at) → FirstFound handler (handler_breaks p.handlers p.ranges) b → ProgramAnswered p r
@@ -115,25 +116,19 @@ module _ (image : List ℕ) (sheet : Sheet) (main : Part) (of : PartOf image res
         unbroken_both rule a (inl h) = unbroken_main rule a h
         unbroken_both rule a (inr h) = unbroken_there p vector handler entered (handler_breaks p.handlers p.ranges) 11 others rule a (last_number rule) h.1
 
-        pub main_too_deep : (r : Result Depths Refusal) (e : Refusal) → IsErrAnd r (λ x. x ≡ e) → DepthRead main (Err e) → ProgramAnswered p r
-        main_too_deep r e is n = refused_by p e (rw n.1 (unbroken_both, inl (rw n.0 at of.walked.depth))) r is
-
-        module _ (m : ℕ) (some : DepthRead main (Ok m)) where
-          abbrev main_deep : Deepest (graph_of p) reset stack_size (Some m)
-          main_deep = rw some at of.walked.depth
-
-          pub handler_too_deep : (r : Result Depths Refusal) (e : Refusal) → IsErrAnd r (λ x. x ≡ e) → DepthRead handler (Err e) → ProgramAnswered p r
-          handler_too_deep r e is n =
-              let f = main_deep.1.found in
-              let y : Deepest (graph_of p) vector stack_size None = rw n.0 at entered.walked.depth in
-              refused_by p e (rw n.1 (unbroken_both, inr (counted on, (f.0, f.1, f.2, (y.0, y.1, y.2, omega (arith, y.3)))))) r is
-
-          pub answered_together : (h : ℕ) → DepthRead handler (Ok h) → (r : Result Depths Refusal) → DepthsTogether m h r → ProgramAnswered p r
-          answered_together h n (Ok d) t =
-              let y : Deepest (graph_of p) vector stack_size (Some h) = rw n at entered.walked.depth in
-              rw t.1 (record { rules = unbroken_both; main = main_deep.1; handler = inr (counted on, y.1, refl); fits = t.0 })
-          answered_together h n (Err r) t =
-              let f = main_deep.1.found in
-              let y : Deepest (graph_of p) vector stack_size (Some h) = rw n at entered.walked.depth in
-              let g = y.1.found in
-              rw t.1 (unbroken_both, inr (counted on, (f.0, f.1, f.2, (g.0, g.1, g.2, omega (arith, f.3, g.3, t.0)))))
+        pub answered_together : (r : Result Depths Refusal) → DepthsTogether main.reach.depth handler.reach.depth r → ProgramAnswered p r
+        answered_together r = go main.reach.depth handler.reach.depth of.walked.depth entered.walked.depth r
+          where
+            go : (m h : Option ℕ) → Deepest (graph_of p) reset stack_size m → Deepest (graph_of p) vector stack_size h →
+                (r : Result Depths Refusal) → DepthsTogether m h r → ProgramAnswered p r
+            go (Some m) (Some h) x y (Ok d) e = rw e.1 (record { rules = unbroken_both; main = x.1; handler = inr (counted on, y.1, refl); fits = e.0 })
+            go (Some m) (Some h) x y (Err r) e =
+                let f = x.1.found in
+                let g = y.1.found in
+                rw e.1 (unbroken_both, inr (counted on, (f.0, f.1, f.2, (g.0, g.1, g.2, omega (arith, f.3, g.3, e.0)))))
+            go (Some m) None x y (Ok d) e = absurd e
+            go (Some m) None x y (Err r) e =
+                let f = x.1.found in
+                rw e (unbroken_both, inr (counted on, (f.0, f.1, f.2, (y.0, y.1, y.2, omega (arith, y.3)))))
+            go None h x y (Ok d) e = absurd e
+            go None h x y (Err r) e = rw e (unbroken_both, inl x)

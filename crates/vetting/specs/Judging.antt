@@ -1,5 +1,5 @@
 -- What a sheet as it was read makes of an image, and what its walks answer.
-use Rattle.std.specs.Prelude.{◌≡◌, ℕ, ◌+◌, ◌<◌, ◌≤◌, List, Ok, Err, Result}
+use Rattle.std.specs.Prelude.{◌≡◌, ℕ, ◌+◌, ◌<◌, ◌≤◌, List, Some, None, Option, Ok, Err, Result}
 use Rattle.refusal.specs.declared.refusal.Refusal.{Refusal}
 use Rattle.refusal.specs.declared.refusal.Refusal.TheVariants.{ImageSize, SheetEnd, SheetWord, SheetRange, Depth, Register, Port, Budget, BurnBuffer, MainWord as main_word, MainReturn as main_return, MainRegister as main_register, HandlerWord as handler_word, HandlerReturn as handler_return, HandlerWrite as handler_write}
 use Rattle.vetting.specs.declared.rules.Rule.{Rule}
@@ -46,15 +46,23 @@ abbrev pub ProgramAnswered : Program → Result Depths Refusal → Type 0
 ProgramAnswered p (Ok d) = Accepted p d
 ProgramAnswered p (Err r) = ProgramRefused p r
 
+-- a depth is within the stack
+abbrev pub Small : Option ℕ → Type 0
+Small (Some d) = d ≤ stack_size
+Small None = Unit {0}
+
 -- the depths where main's walk alone counts
-abbrev pub depth_alone : ℕ → Depths
-depth_alone m = record { main = m; handler = 0; total = m }
+abbrev pub DepthsAlone : Option ℕ → Result Depths Refusal → Type 0
+DepthsAlone (Some m) (Ok d) = d ≡ record { main = m; handler = 0; total = m }
+DepthsAlone (Some m) (Err r) = ⊥
+DepthsAlone None (Ok d) = ⊥
+DepthsAlone None (Err r) = r ≡ Depth
 
--- the depths of two walks, with the interrupt's own place
-abbrev pub depths_of : ℕ → ℕ → Depths
-depths_of m h = record { main = m; handler = h; total = m + 1 + h }
-
--- the depths of two walks, if they fit the stack
-abbrev pub DepthsTogether : ℕ → ℕ → Result Depths Refusal → Type 0
-DepthsTogether m h (Ok d) = (m + 1 + h ≤ stack_size) × (d ≡ depths_of m h)
-DepthsTogether m h (Err r) = (stack_size < m + 1 + h) × (r ≡ Depth)
+-- the depths of two walks, with the interrupt's own place, if they fit the stack
+abbrev pub DepthsTogether : Option ℕ → Option ℕ → Result Depths Refusal → Type 0
+DepthsTogether (Some m) (Some h) (Ok d) = (m + 1 + h ≤ stack_size) × (d ≡ record { main = m; handler = h; total = m + 1 + h })
+DepthsTogether (Some m) (Some h) (Err r) = (stack_size < m + 1 + h) × (r ≡ Depth)
+DepthsTogether (Some m) None (Ok d) = ⊥
+DepthsTogether (Some m) None (Err r) = r ≡ Depth
+DepthsTogether None h (Ok d) = ⊥
+DepthsTogether None h (Err r) = r ≡ Depth

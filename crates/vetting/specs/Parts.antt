@@ -2,8 +2,6 @@
 use Rattle.std.specs.Prelude.{◌≡◌, ℕ, ◌<◌, Bool, true, false, List, Some, None, Ok, Err, Option, Result}
 use Rattle.isa.specs.declared.instruction.Instruction.{Instruction}
 use Rattle.isa.specs.Images.{instruction_in}
-use Rattle.refusal.specs.declared.refusal.Refusal.{Refusal}
-use Rattle.refusal.specs.declared.refusal.Refusal.TheVariants.{Depth}
 use Rattle.walk.specs.declared.addresses.AddressSet.{AddressSet}
 use Rattle.walk.specs.Sets.{Has}
 use Rattle.walk.specs.Result.{Walked}
@@ -59,8 +57,3 @@ pub record FirstFound (part : Part) (breaks : Rule → WordTest) (b : Breach) : 
 abbrev pub Judged : Part → (Rule → WordTest) → Result (Unit {0}) Breach → Type 0
 Judged part breaks (Ok u) = UnbrokenBelow part breaks 11
 Judged part breaks (Err b) = FirstFound part breaks b
-
--- the depth of the calls, unless it passes the stack
-abbrev pub DepthRead : Part → Result ℕ Refusal → Type 0
-DepthRead part (Ok d) = part.reach.depth ≡ Some d
-DepthRead part (Err r) = (part.reach.depth ≡ None) × (r ≡ Depth)

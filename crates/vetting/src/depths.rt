@@ -1,6 +1,5 @@
 // How deep the calls of a program go.
-ghost use Rattle.std.specs.Prelude.{◌≡◌, ◌≤◌};
-ghost use Rattle.vetting.specs.Judging.{depth_alone, DepthsTogether};
+ghost use Rattle.vetting.specs.Judging.{Small, DepthsAlone, DepthsTogether};
 
 use refusal::Refusal;
 
@@ -16,23 +15,26 @@ pub struct Depths {
 pub const STACK_SIZE: u8 = 16;
 
 impl Depths {
-    // The depths of a program whose handler is never entered.
-    pub(crate) fn alone(main: u8) -> Depths
-        ensures { result ≡ depth_alone main }
+    // The depths of a program whose handler is never entered, unless main's passes the stack.
+    pub(crate) fn alone(main: Option<u8>) -> Result<Depths, Refusal>
+        ensures { DepthsAlone main result }
     {
-        Depths {
+        let main = main.ok_or(Refusal::Depth)?;
+        Ok(Depths {
             main,
             handler: 0,
             total: main,
-        }
+        })
     }
 
     // The depths of main and of the handler, if they fit the stack with the interrupt's own place.
-    pub(crate) fn together(main: u8, handler: u8) -> Result<Depths, Refusal>
-        requires main { main ≤ STACK_SIZE }
-        requires handler { handler ≤ STACK_SIZE }
+    pub(crate) fn together(main: Option<u8>, handler: Option<u8>) -> Result<Depths, Refusal>
+        requires main { Small main }
+        requires handler { Small handler }
         ensures { DepthsTogether main handler result }
     {
+        let main = main.ok_or(Refusal::Depth)?;
+        let handler = handler.ok_or(Refusal::Depth)?;
         let total = main + 1 + handler;
         if total > STACK_SIZE {
             return Err(Refusal::Depth);

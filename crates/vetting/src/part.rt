@@ -4,14 +4,13 @@ ghost use Rattle.isa.specs.Images.{instruction_in};
 ghost use Rattle.walk.specs.declared.flow.Flow.TheVariants.{Nowhere};
 ghost use Rattle.vetting.specs.Programs.{flow_of, enables};
 ghost use Rattle.vetting.specs.Verdicts.{reset, vector};
-ghost use Rattle.vetting.specs.Parts.{PartOf, DepthRead, FoundBy, Found, Tells, Judged};
+ghost use Rattle.vetting.specs.Parts.{PartOf, FoundBy, Found, Tells, Judged};
 
 use crate::depths::STACK_SIZE;
 use crate::rulebooks::Rulebook;
 use crate::rules::{Breach, Rule};
 use crate::words::flow_of;
 use isa::{Instruction, decode, instruction_at};
-use refusal::Refusal;
 use walk::{Flow, Reach, walk};
 
 // Where main starts.
@@ -60,10 +59,10 @@ impl<'a> Part<'a> {
     }
 
     // The depth of its calls, unless it passes the stack.
-    pub fn depth(&self) -> Result<u8, Refusal>
-        ensures { DepthRead self.now result }
+    pub fn depth(&self) -> Option<u8>
+        ensures { result ≡ self.now.reach.depth }
     {
-        self.reach.depth.ok_or(Refusal::Depth)
+        self.reach.depth
     }
 
     // An address that is reached with a word and a list that pass a test, if there is one.

@@ -9,17 +9,18 @@ use crate::sheet::Sheet;
 use refusal::Refusal;
 
 // Vets an image with its sheet: main's rules, the handler's if its walk counts, then the depth.
+#[tactic(auto, using(crate::proofs::Vetting::answered_alone, crate::proofs::Vetting::answered_together))]
 fn vet_parts(image: &[u16; 256], sheet: Sheet) -> Result<Depths, Refusal>
     ensures { ProgramAnswered (read_program image.now sheet) result }
 {
     let main = Part::main(image);
     main.judge(&MainRules { sheet })?;
     if !main.enables_interrupts() {
-        return Ok(Depths::alone(main.depth()?));
+        return Depths::alone(main.depth());
     }
     let handler = Part::handler(image);
     handler.judge(&HandlerRules { sheet })?;
-    Depths::together(main.depth()?, handler.depth()?)
+    Depths::together(main.depth(), handler.depth())
 }
 
 // Vets an image with its sheet. The refusals are tried in the order of their numbers, the sheet's words one by one.
