@@ -9,10 +9,10 @@ use Rattle.vetting.specs.declared.depths.Depths.{Depths}
 use Rattle.vetting.specs.declared.rules.Rule.{Rule}
 use Rattle.vetting.specs.declared.rules.Rule.TheVariants.{MainWord, MainReturn, MainRegister, HandlerWord, HandlerReturn, HandlerWrite}
 use Rattle.vetting.specs.declared.rules.Breach.{Breach}
-use Rattle.vetting.specs.Programs.{Program, instruction_at, graph_of, main_breaks, handler_breaks, enables}
+use Rattle.vetting.specs.Programs.{Program, instruction_at, graph_of, main_breaks, handler_breaks}
 use Rattle.vetting.specs.Verdicts.{Test, Breaks, Counted, Broken, FirstBroken, main_test, rule_number, stack_size, reset, vector}
 use Rattle.vetting.specs.declared.part.Part.{Part}
-use Rattle.vetting.specs.Parts.{PartOf, WordTest, TrueAt, Tells, UnbrokenBelow, FirstFound}
+use Rattle.vetting.specs.Parts.{PartOf, WordTest, TrueAt, enabling, Tells, UnbrokenBelow, FirstFound}
 use Rattle.vetting.specs.declared.sheet.Sheet.{Sheet}
 use Rattle.vetting.specs.Judging.{refusal_of, read_program, ProgramRefused, ProgramAnswered, DepthsAlone, DepthsTogether}
 
@@ -61,11 +61,11 @@ module _ (image : List ℕ) (sheet : Sheet) (main : Part) (of : PartOf image res
   abbrev p : Program
   p = read_program image sheet
 
-  counted : Tells main (λ i _. enables i) true → Counted p
-  counted on = (on.0, true_breaks p reset main of (λ i _. enables i) on.0 on.1)
+  counted : Tells main enabling true → Counted p
+  counted on = (on.0, true_breaks p reset main of enabling on.0 on.1)
 
-  not_counted : Tells main (λ i _. enables i) false → Counted p → ⊥
-  not_counted off c = let h = breaks_true p reset main of (λ i _. enables i) c.0 c.1 in off c.0 h.0 h.1
+  not_counted : Tells main enabling false → Counted p → ⊥
+  not_counted off c = let h = breaks_true p reset main of enabling c.0 c.1 in off c.0 h.0 h.1
 
   pub main_refused : (r : Result Depths Refusal) (b : Breach) → IsErrAnd r (λ e. e ≡ refusal_of b.rule b.at) → FirstFound main (main_breaks p.handlers) b → ProgramAnswered p r
   main_refused r b is f =
@@ -75,10 +75,7 @@ module _ (image : List ℕ) (sheet : Sheet) (main : Part) (of : PartOf image res
         broken = inl broken;
         first = λ other a lt br. elim br [
           | inl h ↦ unbroken_there p reset main of (main_breaks p.handlers) _ f.first other a lt h
-          | inr h ↦
-              let high = handler_high p.handlers p.ranges other _ _ h.1.2 in
-              let no : ⊥ = omega arith in
-              no
+          | inr h ↦ let high = handler_high p.handlers p.ranges other _ _ h.1.2 in absurd (omega arith)
         ];
       })) r is
 
@@ -86,7 +83,7 @@ module _ (image : List ℕ) (sheet : Sheet) (main : Part) (of : PartOf image res
     unbroken_main : (rule : Rule) (a : ℕ) → Breaks (graph_of p) reset (main_test p rule) a → ⊥
     unbroken_main rule a = unbroken_there p reset main of (main_breaks p.handlers) 11 none rule a (last_number rule)
 
-    module _ (off : Tells main (λ i _. enables i) false) where
+    module _ (off : Tells main enabling false) where
       unbroken_alone : (rule : Rule) (a : ℕ) → Broken p rule a → ⊥
       unbroken_alone rule a (inl h) = unbroken_main rule a h
       unbroken_alone rule a (inr h) = not_counted off h.0
@@ -100,7 +97,7 @@ module _ (image : List ℕ) (sheet : Sheet) (main : Part) (of : PartOf image res
           go None deep (Ok d) e = absurd e
           go None deep (Err r) e = rw e (unbroken_alone, inl deep)
 
-    module _ (on : Tells main (λ i _. enables i) true) (handler : Part) (entered : PartOf image vector handler) where
+    module _ (on : Tells main enabling true) (handler : Part) (entered : PartOf image vector handler) where
       pub handler_refused : (r : Result Depths Refusal) (b : Breach) → IsErrAnd r (λ e. e ≡ refusal_of b.rule b.at) → FirstFound handler (handler_breaks p.handlers p.ranges) b → ProgramAnswered p r
       handler_refused r b is f =
           refused_by p _ (brings p b.rule b.at (record {

@@ -8,7 +8,7 @@ use Rattle.walk.specs.Result.{Walked}
 use Rattle.vetting.specs.declared.part.Part.{Part}
 use Rattle.vetting.specs.declared.rules.Rule.{Rule}
 use Rattle.vetting.specs.declared.rules.Breach.{Breach}
-use Rattle.vetting.specs.Programs.{flow_of}
+use Rattle.vetting.specs.Programs.{flow_of, enables}
 use Rattle.vetting.specs.Verdicts.{rule_number, stack_size}
 
 -- the part is what the walk through the image from the start reaches
@@ -19,6 +19,10 @@ pub record PartOf (image : List ℕ) (start : ℕ) (part : Part) : Type 0 where
 -- a test of a word that is reached with an empty or a filled list; an undefined word holds no instruction
 abbrev pub WordTest : Type 0
 WordTest = Option Instruction → Bool → Bool
+
+-- the word enables interrupts, whatever the list
+abbrev pub enabling : WordTest
+enabling instruction filled = enables instruction
 
 -- the addresses that are reached with an empty or a filled list
 abbrev pub reached : Part → Bool → AddressSet

@@ -1,4 +1,4 @@
--- What reading a word of a sheet answers.
+-- The words of a sheet, one by one: what each says, and what it adds to the sheet.
 use Rattle.std.specs.Prelude.{◌≡◌, ℕ, ◌/◌, ◌%◌, ◌^◌, Bool, true, false, ◌&&◌, ◌||◌, Ok, Err, Result, ◌==◌, nat_le}
 use Rattle.refusal.specs.declared.refusal.Refusal.{Refusal}
 use Rattle.refusal.specs.declared.refusal.Refusal.TheVariants.{SheetWord as sheet_word, SheetRange as sheet_range}

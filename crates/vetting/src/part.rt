@@ -2,9 +2,9 @@
 ghost use Rattle.std.specs.Prelude.{◌≡◌, ℕ, slice_index_or};
 ghost use Rattle.isa.specs.Images.{instruction_in};
 ghost use Rattle.walk.specs.declared.flow.Flow.TheVariants.{Nowhere};
-ghost use Rattle.vetting.specs.Programs.{flow_of, enables};
+ghost use Rattle.vetting.specs.Programs.{flow_of};
 ghost use Rattle.vetting.specs.Verdicts.{reset, vector};
-ghost use Rattle.vetting.specs.Parts.{PartOf, FoundBy, Found, Tells, Judged};
+ghost use Rattle.vetting.specs.Parts.{PartOf, FoundBy, Found, enabling, Tells, Judged};
 
 use crate::depths::STACK_SIZE;
 use crate::rulebooks::Rulebook;
@@ -83,7 +83,7 @@ impl<'a> Part<'a> {
 
     // Whether a word that enables interrupts is reached.
     pub fn enables_interrupts(&self) -> bool
-        ensures { Tells self.now (λ instruction _. enables instruction) result }
+        ensures { Tells self.now enabling result }
     {
         self.find(|instruction, _| instruction == Some(Instruction::EnableInterrupts))
             .is_some()
