@@ -34,6 +34,7 @@ pub struct Breach {
     pub at: u8,
 }
 
+// A breach brings the refusal of its rule.
 impl From<Breach> for Refusal {
     ghost from_gives = { λ breach refusal. refusal ≡ refusal_of breach.rule breach.at };
 

@@ -48,6 +48,7 @@ pub fn is_end(word: u32) -> bool
     word / 0x4000_0000 == 2
 }
 
+// Reads a word by its upper half, which is the kind with the bits that must be zero.
 impl TryFrom<u32> for SheetWord {
     ghost use Rattle.vetting.specs.SheetWords.{WordRead};
 
