@@ -1,48 +1,51 @@
 -- A text that was written from words reads as these words.
-use Rattle.std.proofs.Common.{◌≡◌, ℕ, ◌+◌, ◌*◌, ◌/◌, ◌%◌, ◌^◌, ◌<◌, ◌≤◌, true, false, List, [], ◌∷◌, ◌++◌, map, Some, None, Ok, Err, vec_items, Option, Result, Vec, sym, refl, ap, ◌∙◌, append_assoc, arith}
+use Rattle.std.proofs.Common.{◌≡◌, ℕ, ◌+◌, ◌*◌, ◌/◌, ◌%◌, ◌^◌, ◌<◌, ◌≤◌, Bool, true, false, cond, List, [], ◌∷◌, ◌++◌, map, Some, None, Ok, Err, vec_items, Option, Result, Vec, sym, refl, ap, ◌∙◌, append_assoc, arith}
 use Rattle.std.proofs.lemmas.List.{map-append}
 use Rattle.std.proofs.lemmas.Bool.Decides.{nat_tests}
-use Rattle.std.specs.List.{flat_map, AllByRecursion}
+use Rattle.std.specs.List.{flat_map, filter, enumerate_from, slice_split, AllByRecursion}
 use Rattle.hexadecimal.specs.Hexadecimal.{digit_of, value_of, four_digits}
 use Rattle.files.specs.Formats.{eight_digits, line_of, ReadBack}
 use Rattle.files.specs.Reading.{AreWords, Reads}
-use Rattle.files.specs.Texts.{separates, pieces, slashes, uncommented, filled, token_at, line_tokens, tokens_from, tokens, Token}
+use Rattle.files.specs.Texts.{ends_line, is_blank, is_filled, slashes, uncommented, token_at, line_tokens, tokens_of, tokens, Token}
 use Rattle.files.specs.Words.{number_on, word_of}
 use Rattle.files.specs.declared.fault.Digits.{Digits}
 use Rattle.files.specs.declared.fault.Digits.TheVariants.{Four, Eight}
 use Rattle.files.specs.declared.fault.Fault.{Fault}
 use Rattle.files.specs.declared.fault.Fault.TheVariants.{Malformed, HalfWord, Memory}
-use Rattle.files.specs.declared.pieces.Separator.{Separator}
-use Rattle.files.specs.declared.pieces.Separator.TheVariants.{LineEnd, Blank}
 use Rattle.files.proofs.Numbers.{digit_read}
 
 -- every byte is '0' or above, as digits are: none is a separator or a slash
 abbrev High : List ℕ → Type 0
 High bs = AllByRecursion (λ b. 48 ≤ b) bs
 
-no_separator : (s : Separator) (b : ℕ) → 48 ≤ b → separates s b ≡ false
-no_separator LineEnd b h = grind (arith, nat_tests)
-no_separator Blank b h = grind (arith, nat_tests)
+no_line_end : (b : ℕ) → 48 ≤ b → ends_line b ≡ false
+no_line_end b h = grind (arith, nat_tests)
+
+no_blank : (b : ℕ) → 48 ≤ b → is_blank b ≡ false
+no_blank b h = grind (arith, nat_tests)
 
 no_comment : (b : ℕ) (bs : List ℕ) → 48 ≤ b → slashes (b ∷ bs) ≡ false
 no_comment b bs h = grind (arith, nat_tests)
-
--- a row of digits is one piece
-one_piece : (s : Separator) (b : ℕ) (bs : List ℕ) → High (b ∷ bs) → pieces s (b ∷ bs) ≡ (b ∷ bs) ∷ []
-one_piece s b [] (h, hs) = rw (no_separator s b h)
-one_piece s b (c ∷ bs) (h, hs) = rw (no_separator s b h, one_piece s c bs hs)
-
-piece_before : (s : Separator) (bs : List ℕ) (e : ℕ) (rest : List ℕ) → High bs → separates s e ≡ true → pieces s (bs ++ e ∷ rest) ≡ bs ∷ pieces s rest
-piece_before s [] e rest hs at = rw at
-piece_before s (b ∷ bs) e rest (h, hs) at = rw (no_separator s b h, piece_before s bs e rest hs at)
 
 uncommented_high : (bs : List ℕ) → High bs → uncommented bs ≡ bs
 uncommented_high [] hs = refl
 uncommented_high (b ∷ bs) (h, hs) = rw (no_comment b bs h, uncommented_high bs hs)
 
+-- a row of digits is one piece
+one_piece : (bs : List ℕ) → High bs → slice_split is_blank bs ≡ bs ∷ []
+one_piece [] hs = refl
+one_piece (b ∷ bs) (h, hs) = rw (no_blank b h, one_piece bs hs)
+
+line_before : (bs rest : List ℕ) → High bs → slice_split ends_line (bs ++ 10 ∷ rest) ≡ bs ∷ slice_split ends_line rest
+line_before [] rest hs = refl
+line_before (b ∷ bs) rest (h, hs) = rw (no_line_end b h, line_before bs rest hs)
+
+has_bytes : (b : ℕ) (bs : List ℕ) → is_filled (b ∷ bs) ≡ true
+has_bytes b bs = grind (arith, nat_tests)
+
 -- a line of digits is one token
 one_token : (n b : ℕ) (bs : List ℕ) → High (b ∷ bs) → line_tokens n (b ∷ bs) ≡ token_at n (b ∷ bs) ∷ []
-one_token n b bs hs = ap (λ l. map (token_at n) (filled (pieces Blank l))) (uncommented_high (b ∷ bs) hs) ∙ ap (λ ps. map (token_at n) (filled ps)) (one_piece Blank b bs hs)
+one_token n b bs hs = ap (λ l. map (token_at n) (filter is_filled (slice_split is_blank l))) (uncommented_high (b ∷ bs) hs) ∙ ap (λ ps. map (token_at n) (filter is_filled ps)) (one_piece (b ∷ bs) hs) ∙ ap (λ (t : Bool). map (token_at n) (cond t ((b ∷ bs) ∷ []) [])) (has_bytes b bs)
 
 -- what a way to write words has to be for them to be read again
 pub record Written (value : List ℕ → Option ℕ) (digits : ℕ → List ℕ) (limit : ℕ) : Type 0 where
@@ -71,25 +74,25 @@ no_none (x ∷ before) after (w ∷ ws) e =
 
 module _ {value : List ℕ → Option ℕ} {digits : ℕ → List ℕ} {limit : ℕ} (way : Written value digits limit) where
   -- the words of a text that has each on a line of its own
-  lines_read : (n : ℕ) (ws : List ℕ) → AllByRecursion (λ w. w < limit) ws → AreWords value (tokens_from n (pieces LineEnd (flat_map (line_of digits) ws))) ws
+  lines_read : (n : ℕ) (ws : List ℕ) → AllByRecursion (λ w. w < limit) ws → AreWords value (tokens_of (enumerate_from n (slice_split ends_line (flat_map (line_of digits) ws)))) ws
   lines_read n [] all = refl
   lines_read n (w ∷ ws) (small, all) =
       let more = flat_map (line_of digits) ws in
       let word = way.first w ∷ way.rest w in
       let text : line_of digits w ++ more ≡ word ++ 10 ∷ more = append_assoc (digits w) (10 ∷ []) more ∙ ap (λ ds. ds ++ 10 ∷ more) (way.parts w) in
-      let cut : pieces LineEnd (line_of digits w ++ more) ≡ word ∷ pieces LineEnd more = ap (pieces LineEnd) text ∙ piece_before LineEnd word 10 more (way.high w) refl in
-      ap (λ ps. map (λ (t : Token). value t.bytes) (tokens_from n ps)) cut ∙
-      ap (λ ts. map (λ (t : Token). value t.bytes) (ts ++ tokens_from (n + 1) (pieces LineEnd more))) (one_token n (way.first w) (way.rest w) (way.high w)) ∙
+      let cut : slice_split ends_line (line_of digits w ++ more) ≡ word ∷ slice_split ends_line more = ap (slice_split ends_line) text ∙ line_before word more (way.high w) in
+      ap (λ ps. map (λ (t : Token). value t.bytes) (tokens_of (enumerate_from n ps))) cut ∙
+      ap (λ ts. map (λ (t : Token). value t.bytes) (ts ++ tokens_of (enumerate_from (n + 1) (slice_split ends_line more)))) (one_token (n + 1) (way.first w) (way.rest w) (way.high w)) ∙
       (λ i. way.back w small i ∷ lines_read (n + 1) ws all i)
 
   pub reads_back : {Z : Type 0} (width : Digits) (text : List ℕ) (r : Result (Vec ℕ Z) Fault) → Reads value width (tokens text) r → ReadBack limit (line_of digits) text r
   reads_back width text (Ok v) read ws all is =
-      some_same (vec_items v) ws (sym read ∙ ap (λ l. map (λ (t : Token). value t.bytes) (tokens l)) is ∙ lines_read 1 ws all)
+      some_same (vec_items v) ws (sym read ∙ ap (λ l. map (λ (t : Token). value t.bytes) (tokens l)) is ∙ lines_read 0 ws all)
   reads_back width text (Err (Malformed line digits found)) (t, fault, at_line, of_width, as_shown) ws all is =
       let f : Token → Option ℕ = λ t. value t.bytes in
       let split : map f (tokens text) ≡ map f fault.before ++ None ∷ map f fault.after =
       ap (map f) fault.cut ∙ map-append f fault.before (t ∷ fault.after) ∙ ap (λ o. map f fault.before ++ o ∷ map f fault.after) fault.bad in
-      absurd (no_none (map f fault.before) (map f fault.after) ws (sym split ∙ ap (λ l. map f (tokens l)) is ∙ lines_read 1 ws all))
+      absurd (no_none (map f fault.before) (map f fault.after) ws (sym split ∙ ap (λ l. map f (tokens l)) is ∙ lines_read 0 ws all))
   reads_back width text (Err (HalfWord n)) none ws all is = absurd none
   reads_back width text (Err Memory) read ws all is = refl
 

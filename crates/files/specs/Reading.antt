@@ -26,12 +26,14 @@ module _ {W : Type 0} (value : List ℕ → Option W) where
   Faults digits ts (HalfWord n) = ⊥
   Faults digits ts Memory = Unit {0}
 
+  -- the word of one token, or a fault that shows the token, which is no word; memory may fail
+  abbrev pub IsRead : Digits → Token → Result W Fault → Type 0
+  IsRead digits t (Ok w) = value t.bytes ≡ Some w
+  IsRead digits t (Err (Malformed line width found)) = (value t.bytes ≡ None) × (line ≡ t.line) × (width ≡ digits) × (string_bytes found ≡ shown_token t.bytes)
+  IsRead digits t (Err (HalfWord n)) = ⊥
+  IsRead digits t (Err Memory) = Unit {0}
+
   -- the words of all tokens, or a fault
   abbrev pub Reads : {Z : Type 0} → Digits → List Token → Result (Vec W Z) Fault → Type 0
   Reads digits ts (Ok v) = AreWords ts (vec_items v)
   Reads digits ts (Err f) = Faults digits ts f
-
-  -- the words of all tokens are added at the end, or a fault
-  abbrev pub Adds : {T : Type 0} → Digits → List Token → List W → Result T Fault → List W → Type 0
-  Adds digits ts was (Ok x) now = (ws : List W) × AreWords ts ws × (now ≡ was ++ ws)
-  Adds digits ts was (Err f) now = Faults digits ts f

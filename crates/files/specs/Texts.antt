@@ -1,22 +1,18 @@
 -- The tokens of a text.
-use Rattle.std.specs.Prelude.{ℕ, ◌+◌, Bool, cond, ◌&&◌, ◌||◌, List, [], ◌∷◌, ◌++◌, map, ◌==◌, slice_index}
-use Rattle.files.specs.declared.pieces.Separator.{Separator}
-use Rattle.files.specs.declared.pieces.Separator.TheVariants.{LineEnd, Blank}
+use Rattle.std.specs.Prelude.{ℕ, ◌+◌, Bool, cond, not, ◌&&◌, ◌||◌, List, [], ◌∷◌, map, filter, length, ◌==◌, slice_index}
+use Rattle.std.specs.List.{flat_map, enumerate_from, slice_split}
 
--- a line ends with a line feed; a space, a tab and a carriage return are blanks
-abbrev pub separates : Separator → ℕ → Bool
-separates LineEnd b = b == 10
-separates Blank b = b == 32 || b == 9 || b == 13
+-- a line ends with a line feed
+abbrev pub ends_line : ℕ → Bool
+ends_line b = b == 10
 
--- the pieces, of which the first begins with this byte
-abbrev pub longer : ℕ → List (List ℕ) → List (List ℕ)
-longer b [] = (b ∷ []) ∷ []
-longer b (p ∷ ps) = (b ∷ p) ∷ ps
+-- a space, a tab and a carriage return are blanks
+abbrev pub is_blank : ℕ → Bool
+is_blank b = b == 32 || b == 9 || b == 13
 
--- the pieces of a text that end with a separator or with the text
-abbrev pub pieces : Separator → List ℕ → List (List ℕ)
-pieces s [] = []
-pieces s (b ∷ bs) = cond (separates s b) ([] ∷ pieces s bs) (longer b (pieces s bs))
+-- whether a piece of a line has a byte, and so is a token
+abbrev pub is_filled : List ℕ → Bool
+is_filled bs = not (length bs == 0)
 
 -- whether a comment begins here
 abbrev pub slashes : List ℕ → Bool
@@ -27,12 +23,6 @@ abbrev pub uncommented : List ℕ → List ℕ
 uncommented [] = []
 uncommented (b ∷ bs) = cond (slashes (b ∷ bs)) [] (b ∷ uncommented bs)
 
--- the pieces that are not empty
-abbrev pub filled : List (List ℕ) → List (List ℕ)
-filled [] = []
-filled ([] ∷ ps) = filled ps
-filled ((b ∷ bs) ∷ ps) = (b ∷ bs) ∷ filled ps
-
 -- a token: its line and its bytes
 pub record Token : Type 0 where
   pub line : ℕ
@@ -42,15 +32,18 @@ pub record Token : Type 0 where
 abbrev pub token_at : ℕ → List ℕ → Token
 token_at n bs = record { line = n; bytes = bs }
 
--- the tokens of the line with this number: what blanks part before the comment
-abbrev pub line_tokens : ℕ → List ℕ → List Token
-line_tokens n l = map (token_at n) (filled (pieces Blank (uncommented l)))
+-- the pieces of a line that are tokens: what blanks part before the comment
+abbrev pub line_pieces : List ℕ → List (List ℕ)
+line_pieces l = filter is_filled (slice_split is_blank (uncommented l))
 
--- the tokens of lines, of which the first has this number
-abbrev pub tokens_from : ℕ → List (List ℕ) → List Token
-tokens_from n [] = []
-tokens_from n (l ∷ ls) = line_tokens n l ++ tokens_from (n + 1) ls
+-- the tokens of the line with this number
+abbrev pub line_tokens : ℕ → List ℕ → List Token
+line_tokens n l = map (token_at n) (line_pieces l)
+
+-- the tokens of lines with their indices, which count from 0
+abbrev pub tokens_of : List (ℕ × List ℕ) → List Token
+tokens_of ls = flat_map (λ l. line_tokens (l.0 + 1) l.1) ls
 
 -- the tokens of a text, whose lines count from 1
 abbrev pub tokens : List ℕ → List Token
-tokens text = tokens_from 1 (pieces LineEnd text)
+tokens text = tokens_of (enumerate_from 0 (slice_split ends_line text))

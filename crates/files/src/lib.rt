@@ -4,9 +4,9 @@
 mod fault;
 mod formats;
 mod message;
-mod pieces;
 mod reader;
 mod token;
+mod tokens;
 
 pub use fault::{Digits, Fault};
 pub use formats::{image_binary, image_text, sheet_text};
