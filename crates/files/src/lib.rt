@@ -5,6 +5,7 @@ mod fault;
 mod formats;
 mod message;
 mod reader;
+mod shown;
 mod token;
 mod tokens;
 

@@ -4,7 +4,8 @@ ghost use Rattle.files.specs.Reading.{IsRead, Reads};
 ghost use Rattle.files.specs.Views.{token_of};
 
 use crate::fault::Fault;
-use crate::token::{Word, shown};
+use crate::shown::Shown;
+use crate::token::Word;
 use crate::tokens::{Token, tokens};
 use std::alloc::Global;
 
@@ -18,7 +19,7 @@ impl Token<'_> {
             None => Err(Fault::Malformed {
                 line: self.line,
                 digits: W::digits(),
-                found: shown(heap, self.bytes)?,
+                found: Shown(self.bytes).to_string(heap)?,
             }),
         }
     }
