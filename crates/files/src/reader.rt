@@ -12,13 +12,13 @@ use std::alloc::Global;
 impl Token<'_> {
     // The word, or what is wrong with the token.
     fn word<W: Word>(&self, heap: Global) -> Result<W, Fault>
-        ensures { IsRead W.Word.value W.Word.width (token_of self.now) result }
+        ensures { IsRead W.Word.value W.Word.DIGITS (token_of self.now) result }
     {
         match W::read(self.bytes) {
             Some(word) => Ok(word),
             None => Err(Fault::Malformed {
                 line: self.line,
-                digits: W::digits(),
+                digits: W::DIGITS,
                 found: Shown(self.bytes).to_string(heap)?,
             }),
         }
@@ -27,7 +27,7 @@ impl Token<'_> {
 
 // The words of all tokens of a text.
 pub fn read<W: Word>(heap: Global, text: &[u8]) -> Result<Vec<W>, Fault>
-    ensures { Reads W.Word.value W.Word.width (tokens text.now) result }
+    ensures { Reads W.Word.value W.Word.DIGITS (tokens text.now) result }
 {
     let tokens = tokens(heap, text)?;
     let mut words = Vec::new(heap);

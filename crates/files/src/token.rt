@@ -35,42 +35,36 @@ fn number(digits: Digits, token: &[u8]) -> Option<u32>
 
 // A type of word that a text writes in hexadecimal digits.
 pub trait Word: Sized + Drop {
-    ghost width: { Count };
+    ghost DIGITS: { Count };
+
+    // How many digits a word has.
+    const DIGITS: Digits;
 
     ghost value: { List ℕ → Option Self };
 
-    fn digits() -> Digits
-        ensures { result ≡ width };
-
+    // The word that these bytes write, if they are one.
     fn read(token: &[u8]) -> Option<Self>
         ensures { result ≡ value token.now };
 }
 
 impl Word for u16 {
-    ghost width = { Four };
+    ghost DIGITS = { Four };
+
+    const DIGITS: Digits = Digits::Four;
 
     ghost value = { word_of Four };
 
-    fn digits() -> Digits {
-        Digits::Four
-    }
-
     fn read(token: &[u8]) -> Option<u16> {
-        match number(Digits::Four, token) {
-            Some(number) => Some(number as u16),
-            None => None,
-        }
+        number(Digits::Four, token).map(|number| number as u16)
     }
 }
 
 impl Word for u32 {
-    ghost width = { Eight };
+    ghost DIGITS = { Eight };
+
+    const DIGITS: Digits = Digits::Eight;
 
     ghost value = { word_of Eight };
-
-    fn digits() -> Digits {
-        Digits::Eight
-    }
 
     fn read(token: &[u8]) -> Option<u32> {
         number(Digits::Eight, token)
