@@ -1,22 +1,10 @@
 -- Words of two bytes, pair by pair.
-use Rattle.std.proofs.Common.{◌≡◌, ℕ, ◌*◌, ◌/◌, ◌%◌, ◌<◌, List, [], ◌∷◌, ◌++◌, length, get_or, sym, refl, ap, ◌∙◌, append_assoc, append-nil, arith, length-append}
-use Rattle.std.proofs.lemmas.List.{flat_map_more}
+use Rattle.std.proofs.Common.{◌≡◌, ℕ, zero, suc, ◌*◌, ◌/◌, ◌%◌, List, [], ◌∷◌, map, length, sym, refl, ap, ◌∙◌, arith}
 use Rattle.std.specs.List.{flat_map}
+use Rattle.std.proofs.lemmas.List.{map-id}
+use Rattle.std.proofs.lemmas.List.Folds.{flat_map-map}
+use Rattle.std.specs.Simd.{first_chunks}
 use Rattle.files.specs.Formats.{big_endian}
-
--- one word more
-pub pairs_more : (bs ws vs pair rest next : List ℕ) (w : ℕ) → flat_map big_endian ws ++ rest ≡ bs → rest ≡ pair ++ next → length pair ≡ 2 → big_endian w ≡ get_or pair 0 0 ∷ get_or pair 1 0 ∷ [] → vs ≡ ws ++ w ∷ [] → flat_map big_endian vs ++ next ≡ bs
-pairs_more bs ws vs [] rest next w before cut two is push = absurd (omega arith)
-pairs_more bs ws vs (h ∷ []) rest next w before cut two is push = absurd (omega arith)
-pairs_more bs ws vs (h ∷ l ∷ x ∷ xs) rest next w before cut two is push = absurd (omega arith)
-pairs_more bs ws vs (h ∷ l ∷ []) rest next w before cut two is push =
-    let front = flat_map big_endian ws in
-    ap (λ v. flat_map big_endian v ++ next) push ∙
-    ap (λ b. b ++ next) (sym (flat_map_more big_endian [] ws w)) ∙
-    append_assoc front (big_endian w) next ∙
-    ap (λ p. front ++ (p ++ next)) is ∙
-    ap (λ r. front ++ r) (sym cut) ∙
-    before
 
 even : (ws : List ℕ) → length (flat_map big_endian ws) ≡ 2 * length ws
 even [] = omega arith
@@ -25,10 +13,17 @@ even (w ∷ ws) = omega (arith, even ws)
 pub even_length : (bs ws : List ℕ) → bs ≡ flat_map big_endian ws → length bs % 2 ≡ 0
 even_length bs ws is = omega (arith, ap length is, even ws)
 
--- no byte is left over
-pub pairs_all : (bs ws rest : List ℕ) → flat_map big_endian ws ++ rest ≡ bs → length rest < 2 → length bs % 2 ≡ 0 → flat_map big_endian ws ≡ bs
-pairs_all bs ws [] all few whole = sym (append-nil (flat_map big_endian ws)) ∙ all
-pairs_all bs ws (b ∷ rest) all few whole = absurd (omega (arith, ap length all, length-append (flat_map big_endian ws) (b ∷ rest), even ws))
+-- pairs, one after another, give the bytes back
+pairs_join : (n : ℕ) (bs : List ℕ) → length bs ≡ 2 * n → flat_map (λ p. p) (first_chunks 2 n bs) ≡ bs
+pairs_join zero [] long = refl
+pairs_join zero (b ∷ bs) long = absurd (omega arith)
+pairs_join (suc n) [] long = absurd (omega arith)
+pairs_join (suc n) (b ∷ []) long = absurd (omega arith)
+pairs_join (suc n) (b ∷ c ∷ bs) long = ap (λ l. b ∷ c ∷ l) (pairs_join n bs (omega arith))
+
+-- where no byte is left over, the words of the pairs are all
+pub words_whole : (bs ws : List ℕ) → length bs % 2 ≡ 0 → map big_endian ws ≡ map (λ p. p) (first_chunks 2 (length bs / 2) bs) → flat_map big_endian ws ≡ bs
+words_whole bs ws whole is = sym (flat_map-map (λ p. p) big_endian ws) ∙ ap (flat_map (λ p. p)) (is ∙ map-id _) ∙ pairs_join (length bs / 2) bs (omega arith)
 
 pub same_words : (vs ws : List ℕ) → flat_map big_endian vs ≡ flat_map big_endian ws → vs ≡ ws
 same_words [] [] e = refl

@@ -1,5 +1,5 @@
 // The formats of an image and a sheet.
-ghost use Rattle.std.specs.Prelude.{◌≡◌, ◌^◌, [], ◌∷◌};
+ghost use Rattle.std.specs.Prelude.{◌≡◌, ◌^◌};
 ghost use Rattle.hexadecimal.specs.Hexadecimal.{four_digits};
 ghost use Rattle.files.specs.Formats.{eight_digits, line_of, big_endian, Joins, ReadBack};
 ghost use Rattle.files.specs.Reading.{Reads};
@@ -27,11 +27,11 @@ pub fn sheet_text(heap: Global, text: &[u8]) -> Result<Vec<u32>, Fault>
     read(heap, text)
 }
 
-// The word of two bytes.
-fn word(high: u8, low: u8) -> u16
-    ensures { big_endian result ≡ high ∷ low ∷ [] }
+// The word of two bytes, the high one first.
+fn word(pair: &[u8; 2]) -> u16
+    ensures { big_endian result ≡ pair.now }
 {
-    u16::from_be_bytes([high, low])
+    u16::from_be_bytes(*pair)
 }
 
 // An image as binary: words of two bytes, high byte first.
@@ -39,12 +39,9 @@ pub fn image_binary(heap: Global, bytes: &[u8]) -> Result<Vec<u16>, Fault>
     ensures joins { Joins bytes.now result }
     ensures back { ReadBack (2 ^ 16) big_endian bytes.now result }
 {
-    if bytes.len() % 2 != 0 {
+    let (pairs, rest) = bytes.as_chunks();
+    if !rest.is_empty() {
         return Err(Fault::HalfWord { bytes: bytes.len() });
     }
-    let mut words = Vec::new(heap);
-    for pair in bytes.chunks_exact(2) {
-        words.push(word(pair[0], pair[1]))?;
-    }
-    Ok(words)
+    Ok(pairs.iter().map(word).collect(heap)?)
 }

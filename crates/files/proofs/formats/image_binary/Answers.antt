@@ -1,29 +1,19 @@
 -- Pair by pair.
-use Rattle.std.proofs.Common.{refl, ◌∙◌, arith}
-use Rattle.std.proofs.lemmas.Result.{err_from_is_err_and}
-use Rattle.files.proofs.BytePairs.{pairs_more, even_length, pairs_all, same_words}
+use Rattle.std.proofs.Common.{◌≡◌, ℕ, ◌/◌, length, Ok, rules, tests, vec_items, ◌∙◌, arith, true-eqb, false-eqb}
+use Rattle.std.proofs.lemmas.Iterator.{YieldsList-from_slice, YieldsList-from_map_by}
+use Rattle.std.proofs.lemmas.Iterator.Consumers.{YieldsList-at, map_from_collect}
+use Rattle.std.specs.List.{flat_map}
+use Rattle.std.specs.Simd.{first_chunks}
+use Rattle.files.specs.Formats.{big_endian}
+use Rattle.files.proofs.BytePairs.{even_length, words_whole, same_words}
 use Rattle.files.proofs.formats.image_binary.Goals as goal
 
-pub returns-then-bytes-ne0 : goal.returns-then-bytes-ne0
-returns-then-bytes-ne0 c = record { joins = (refl, omega arith); back = λ ws all is. absurd (c.if-bytes-ne0.true (even_length _ ws is)) }
-
-pub loop-pair-preserved : goal.loop-pair-preserved
-loop-pair-preserved c =
-    let step = c.in-Some.ensures.steps in
-    let old = c.loop-pair.invariant in (
-      omega (arith, step.0, old.2),
-      omega arith,
-      step.0 ∙ old.2,
-      pairs_more _ _ _ c.in-Some.pair.now _ _ c.word.result old.3 step.1.0 (step.1.1 ∙ old.2) c.word.ensures c.in_ok-push.ensures.items,
-    )
-
-pub returns-in_err-push : goal.returns-in_err-push
-returns-in_err-push c =
-    let p = err_from_is_err_and c.from_residual.result c.from_residual.ensures.1 in
-    rw (p.1, p.2) (record { joins = tt; back = λ ws all is. refl })
+pub returns-then-not-is_empty-clause-back : goal.returns-then-not-is_empty-clause-back
+returns-then-not-is_empty-clause-back c ws all is = absurd (false-eqb _ 0 c.if-not-is_empty.ensures (omega (arith, c.as_chunks.ensures.back_len, even_length _ ws is)))
 
 pub returns : goal.returns
 returns c =
-    let old = c.loop-pair.invariant in
-    let whole = pairs_all _ _ _ old.3 (omega (arith, c.in-None.ensures.steps.1.0, old.2)) c.if-bytes-ne0.false in
+    let bytes = c.args.bytes.now in
+    let each = map_from_collect {E = ℕ} (Ok c.in_ok-collect.field-0) c.in_ok-collect.ensures.ran (YieldsList-from_map_by _ big_endian (λ p. p) (YieldsList-at c.map.ensures.source (YieldsList-from_slice (first_chunks 2 (length bytes / 2) bytes) (c.iter.ensures.rest ∙ c.as_chunks.ensures.front))) c.map.ensures.closure (λ x r q k. search (rules, tests))) in
+    let whole : flat_map big_endian (vec_items c.in_ok-collect.field-0) ≡ bytes = words_whole bytes (vec_items c.in_ok-collect.field-0) (omega (arith, c.as_chunks.ensures.back_len, true-eqb _ 0 c.if-not-is_empty.ensures)) each in
     record { joins = whole; back = λ ws all is. same_words _ ws (whole ∙ is) }
