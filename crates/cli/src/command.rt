@@ -1,55 +1,56 @@
 // The commands, and the arguments that they take.
-ghost use Rattle.std.specs.Prelude.{◌≡◌, map, length, IfOk, string_bytes};
-ghost use Rattle.cli.specs.Arguments.{arguments_of, Found, Asked};
+ghost use Rattle.std.specs.Prelude.{◌≡◌, map, string_bytes};
+ghost use Rattle.cli.specs.Arguments.{Asked, Found};
 
 use crate::usage::Usage;
+use std::str::FromStr;
 
-// What the program is asked to do.
+// The name of a command.
 #[derive(Clone, Copy, PartialEq, Eq, Debug)]
-pub enum Command {
+pub enum CommandName {
     List,
     Vet,
     Help,
 }
 
-impl Command {
-    // How many arguments the command has, its own name included.
-    fn arguments(self) -> usize
-        ensures { result ≡ arguments_of self }
-    {
-        match self {
-            Command::List => 2,
-            Command::Vet => 3,
-            Command::Help => 1,
+impl FromStr for CommandName {
+    type Err = Usage;
+
+    ghost from_str_gives = { Found };
+
+    fn from_str(word: &str) -> Result<CommandName, Usage> {
+        match word {
+            "list" => Ok(CommandName::List),
+            "vet" => Ok(CommandName::Vet),
+            "help" => Ok(CommandName::Help),
+            _ => Err(Usage::Unknown),
         }
     }
 }
 
-// The command of that name, if there is one.
-fn named(word: &str) -> Option<Command>
-    ensures { Found word.now result }
-{
-    match word {
-        "list" => Some(Command::List),
-        "vet" => Some(Command::Vet),
-        "help" => Some(Command::Help),
-        _ => None,
-    }
+// What the program is asked to do, with the names of the files.
+#[derive(Clone, Copy, PartialEq, Eq, Debug)]
+pub enum Command<'a> {
+    List { image: &'a str },
+    Vet { image: &'a str, sheet: &'a str },
+    Help,
 }
 
 // The command that the arguments ask for.
-pub fn parse(arguments: &[String]) -> Result<Command, Usage>
-    ensures asked { Asked (map string_bytes arguments.now) result }
-    ensures count { IfOk result (λ c. length arguments.now ≡ arguments_of c) }
+pub fn parse(arguments: &[String]) -> Result<Command<'_>, Usage>
+    ensures { Asked (map string_bytes arguments.now) result }
 {
-    let Some(first) = arguments.first() else {
-        return Err(Usage::Unknown);
-    };
-    let Some(command) = named(first.as_str()) else {
-        return Err(Usage::Unknown);
-    };
-    if arguments.len() != command.arguments() {
-        return Err(Usage::Files(command));
+    let (first, files) = arguments.split_first().ok_or(Usage::Unknown)?;
+    let name: CommandName = first.as_str().parse()?;
+    match (name, files) {
+        (CommandName::List, [image]) => Ok(Command::List {
+            image: image.as_str(),
+        }),
+        (CommandName::Vet, [image, sheet]) => Ok(Command::Vet {
+            image: image.as_str(),
+            sheet: sheet.as_str(),
+        }),
+        (CommandName::Help, []) => Ok(Command::Help),
+        _ => Err(Usage::Files(name)),
     }
-    Ok(command)
 }

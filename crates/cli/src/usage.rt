@@ -1,8 +1,8 @@
 // What was expected of the arguments, and the help.
-ghost use Rattle.std.specs.Prelude.{◌≡◌, Some};
+ghost use Rattle.std.specs.Prelude.{Some};
 ghost use Rattle.cli.specs.Arguments.{form_of, expected_text, usage_text};
 
-use crate::command::Command;
+use crate::command::CommandName;
 use std::fmt;
 
 // The text of the command `help`.
@@ -21,27 +21,34 @@ SHEET: words of eight hexadecimal digits, // starts a comment
 #[derive(Clone, Copy, PartialEq, Eq, Debug)]
 pub enum Usage {
     Unknown,
-    Files(Command),
+    Files(CommandName),
 }
 
-// The form of a command.
-fn form(command: Command) -> &'static str
-    ensures { result.now ≡ form_of command }
-{
-    match command {
-        Command::List => "list IMAGE",
-        Command::Vet => "vet IMAGE SHEET",
-        Command::Help => "help alone",
+// A command, shown with its files.
+impl fmt::Display for CommandName {
+    ghost output = { λ c. Some (form_of c) };
+
+    fn fmt<W: fmt::Write>(&self, f: &mut fmt::Formatter<W>) -> fmt::Result {
+        match self {
+            CommandName::List => write!(f, "list IMAGE"),
+            CommandName::Vet => write!(f, "vet IMAGE SHEET"),
+            CommandName::Help => write!(f, "help alone"),
+        }
     }
 }
 
 // What the arguments should have been.
-fn expected(usage: Usage) -> &'static str
-    ensures { result.now ≡ expected_text usage }
-{
-    match usage {
-        Usage::Unknown => "list, vet or help",
-        Usage::Files(command) => form(command),
+#[derive(Clone, Copy)]
+struct Expected(Usage);
+
+impl fmt::Display for Expected {
+    ghost output = { λ e. Some (expected_text e.0) };
+
+    fn fmt<W: fmt::Write>(&self, f: &mut fmt::Formatter<W>) -> fmt::Result {
+        match self.0 {
+            Usage::Unknown => write!(f, "list, vet or help"),
+            Usage::Files(command) => write!(f, "{command}"),
+        }
     }
 }
 
@@ -49,6 +56,6 @@ impl fmt::Display for Usage {
     ghost output = { λ u. Some (usage_text u) };
 
     fn fmt<W: fmt::Write>(&self, f: &mut fmt::Formatter<W>) -> fmt::Result {
-        write!(f, "expected {}; try 'minirisc help'", expected(*self))
+        write!(f, "expected {}; try 'minirisc help'", Expected(*self))
     }
 }

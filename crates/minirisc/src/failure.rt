@@ -1,0 +1,39 @@
+// Why the program gives no answer.
+use cli::Usage;
+use files::Fault;
+use std::{fmt, io};
+
+#[derive(Drop)]
+pub enum Failure<'a> {
+    Usage(Usage),
+    Unreadable { name: &'a str, error: io::Error },
+    Faulty { name: &'a str, fault: Fault },
+    Unprinted(io::Error),
+}
+
+impl From<Usage> for Failure<'_> {
+    fn from(usage: Usage) -> Self {
+        Failure::Usage(usage)
+    }
+}
+
+impl From<io::Error> for Failure<'_> {
+    fn from(error: io::Error) -> Self {
+        Failure::Unprinted(error)
+    }
+}
+
+// A file's fault stands behind its name, and its line, where it has one, right behind the name.
+impl fmt::Display for Failure<'_> {
+    fn fmt<W: fmt::Write>(&self, f: &mut fmt::Formatter<W>) -> fmt::Result {
+        match self {
+            Failure::Usage(usage) => write!(f, "{usage}"),
+            Failure::Unreadable { name, error } => write!(f, "{name}: {error}"),
+            Failure::Faulty { name, fault } => match fault {
+                Fault::Malformed { .. } => write!(f, "{name}:{fault}"),
+                Fault::HalfWord { .. } | Fault::Memory => write!(f, "{name}: {fault}"),
+            },
+            Failure::Unprinted(error) => write!(f, "{error}"),
+        }
+    }
+}
