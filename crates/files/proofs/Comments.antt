@@ -1,5 +1,5 @@
 -- The part of a line before its comment, from its pairs of neighbours.
-use Rattle.std.proofs.Common.{◌≡◌, ℕ, suc, ◌+◌, ◌<◌, ◌≤◌, Bool, true, false, ◌&&◌, eqb, ltb, List, [], ◌∷◌, length, take, drop, Some, None, Option, refl, ap, ◌∙◌, arith, ltb-true, ltb-false, subst}
+use Rattle.std.proofs.Common.{◌≡◌, ℕ, suc, ◌+◌, ◌<◌, ◌≤◌, Bool, true, false, ◌&&◌, eqb, ltb, List, [], ◌∷◌, length, take, drop, Option, refl, ap, ◌∙◌, arith, ltb-true, take_all, unwrap_or, ltb-false, subst}
 use Rattle.std.specs.List.{position, position_or_len}
 use Rattle.std.specs.Slice.Iter.{windows_rest, windows_size, windows_steps}
 use Rattle.std.specs.declared.slice.Windows.{Windows}
@@ -59,15 +59,10 @@ comment_none (a ∷ b ∷ bs) h = by (two_slashes (a ∷ b ∷ [])) refl (λ k. 
     by true e later = let none = rw e at h in absurd (omega arith)
     by false e later = let more = rw e at h in rw e (ap (λ l. a ∷ l) (later (omega arith)))
 
--- a line up to an index, or whole
-abbrev pub up_to : Option ℕ → List ℕ → List ℕ
-up_to (Some n) bs = take n bs
-up_to None bs = bs
-
 -- the first two slashes begin the comment
-pub comment_cut : (bs : List ℕ) (r : Option ℕ) → r ≡ position two_slashes (pairs bs) → up_to r bs ≡ uncommented bs
-comment_cut bs r e = ap (λ o. up_to o bs) e ∙ by (ltb (position_or_len two_slashes (pairs bs)) (length (pairs bs))) refl
+pub comment_cut : (bs : List ℕ) (r : Option ℕ) → r ≡ position two_slashes (pairs bs) → take (unwrap_or r (length bs)) bs ≡ uncommented bs
+comment_cut bs r e = ap (λ o. take (unwrap_or o (length bs)) bs) e ∙ by (ltb (position_or_len two_slashes (pairs bs)) (length (pairs bs))) refl
   where
-    by : (t : Bool) → ltb (position_or_len two_slashes (pairs bs)) (length (pairs bs)) ≡ t → up_to (position two_slashes (pairs bs)) bs ≡ uncommented bs
+    by : (t : Bool) → ltb (position_or_len two_slashes (pairs bs)) (length (pairs bs)) ≡ t → take (unwrap_or (position two_slashes (pairs bs)) (length bs)) bs ≡ uncommented bs
     by true h = rw h (comment_at bs (ltb-true _ _ h))
-    by false h = rw h (comment_none bs (ltb-false _ _ h))
+    by false h = rw h (take_all (length bs) bs (omega arith) ∙ comment_none bs (ltb-false _ _ h))

@@ -1,5 +1,4 @@
 pub mod Numbers
-pub mod Messages
 pub mod Collecting
 pub mod Written
 pub mod BytePairs

@@ -85,7 +85,7 @@ module _ {value : List ℕ → Option ℕ} {digits : ℕ → List ℕ} {limit : 
       ap (λ ts. map (λ (t : Token). value t.bytes) (ts ++ tokens_of (enumerate_from (n + 1) (slice_split ends_line more)))) (one_token (n + 1) (way.first w) (way.rest w) (way.high w)) ∙
       (λ i. way.back w small i ∷ lines_read (n + 1) ws all i)
 
-  pub reads_back : {Z : Type 0} (width : Digits) (text : List ℕ) (r : Result (Vec ℕ Z) Fault) → Reads value width (tokens text) r → ReadBack limit (line_of digits) text r
+  reads_back : {Z : Type 0} (width : Digits) (text : List ℕ) (r : Result (Vec ℕ Z) Fault) → Reads value width (tokens text) r → ReadBack limit (line_of digits) text r
   reads_back width text (Ok v) read ws all is =
       some_same (vec_items v) ws (sym read ∙ ap (λ l. map (λ (t : Token). value t.bytes) (tokens l)) is ∙ lines_read 0 ws all)
   reads_back width text (Err (Malformed line digits found)) (t, fault, at_line, of_width, as_shown) ws all is =
@@ -127,7 +127,7 @@ high_append : (cs bs : List ℕ) → High cs → High bs → High (cs ++ bs)
 high_append [] bs p q = q
 high_append (c ∷ cs) bs (h, p) q = (h, high_append cs bs p q)
 
-pub image_way : Written (word_of Four) four_digits (2 ^ 16)
+image_way : Written (word_of Four) four_digits (2 ^ 16)
 image_way = record {
   first = λ w. digit_of (w / 0x100 / 0x10 % 0x10);
   rest = λ w. digit_of (w / 0x100 % 0x10) ∷ digit_of (w % 0x100 / 0x10 % 0x10) ∷ digit_of (w % 0x100 % 0x10) ∷ [];
@@ -136,7 +136,7 @@ image_way = record {
   back = λ w small. four_read 0 w [] (omega arith) ∙ ap Some (let same : 0 * 0x10000 + w ≡ w = omega arith in same);
 }
 
-pub sheet_way : Written (word_of Eight) eight_digits (2 ^ 32)
+sheet_way : Written (word_of Eight) eight_digits (2 ^ 32)
 sheet_way = record {
   first = λ w. digit_of (w / 0x10000 / 0x100 / 0x10 % 0x10);
   rest = λ w. digit_of (w / 0x10000 / 0x100 % 0x10) ∷ digit_of (w / 0x10000 % 0x100 / 0x10 % 0x10) ∷ digit_of (w / 0x10000 % 0x100 % 0x10) ∷ four_digits (w % 0x10000);
@@ -146,3 +146,9 @@ sheet_way = record {
       let sum : (0 * 0x10000 + w / 0x10000) * 0x10000 + w % 0x10000 ≡ w = omega arith in
       four_read 0 (w / 0x10000) (four_digits (w % 0x10000)) (omega arith) ∙ four_read (0 * 0x10000 + w / 0x10000) (w % 0x10000) [] (omega arith) ∙ ap Some sum;
 }
+
+pub image_back : {Z : Type 0} (text : List ℕ) (r : Result (Vec ℕ Z) Fault) → Reads (word_of Four) Four (tokens text) r → ReadBack (2 ^ 16) (line_of four_digits) text r
+image_back text r read = reads_back image_way Four text r read
+
+pub sheet_back : {Z : Type 0} (text : List ℕ) (r : Result (Vec ℕ Z) Fault) → Reads (word_of Eight) Eight (tokens text) r → ReadBack (2 ^ 32) (line_of eight_digits) text r
+sheet_back text r read = reads_back sheet_way Eight text r read

@@ -11,9 +11,13 @@ use Rattle.files.specs.declared.fault.Fault.TheVariants.{Malformed, HalfWord, Me
 abbrev pub shown_byte : ℕ → List ℕ
 shown_byte b = cond (nat_le 0x20 b && nat_le b 0x7E) (b ∷ []) (codes "\\x" ++ two_digits b)
 
+-- what stands behind the bytes of a token that are shown
+abbrev pub dots : List ℕ → List ℕ
+dots bs = cond (nat_lt 24 (length bs)) (codes "...") []
+
 -- a token in a message: its first 24 bytes, and dots where there are more
 abbrev pub shown_token : List ℕ → List ℕ
-shown_token bs = flat_map shown_byte (take 24 bs) ++ cond (nat_lt 24 (length bs)) (codes "...") []
+shown_token bs = flat_map shown_byte (take 24 bs) ++ dots bs
 
 -- a number of digits in words
 abbrev pub digits_name : Digits → List ℕ

@@ -12,6 +12,7 @@ use crate::reader::read;
 use std::alloc::Global;
 
 // An image as text: words of four hexadecimal digits between blanks, line ends and comments.
+#[tactic(auto, using(crate::proofs::Written::image_back))]
 pub fn image_text(heap: Global, text: &[u8]) -> Result<Vec<u16>, Fault>
     ensures reads { Reads (word_of Four) Four (tokens text.now) result }
     ensures back { ReadBack (2 ^ 16) (line_of four_digits) text.now result }
@@ -20,6 +21,7 @@ pub fn image_text(heap: Global, text: &[u8]) -> Result<Vec<u16>, Fault>
 }
 
 // A sheet as text: words of eight hexadecimal digits between blanks, line ends and comments.
+#[tactic(auto, using(crate::proofs::Written::sheet_back))]
 pub fn sheet_text(heap: Global, text: &[u8]) -> Result<Vec<u32>, Fault>
     ensures reads { Reads (word_of Eight) Eight (tokens text.now) result }
     ensures back { ReadBack (2 ^ 32) (line_of eight_digits) text.now result }

@@ -1,6 +1,6 @@
 // Bytes of a file as a message shows them.
-ghost use Rattle.std.specs.Prelude.{Some};
-ghost use Rattle.files.specs.Wording.{shown_byte, shown_token};
+ghost use Rattle.std.specs.Prelude.{◌≡◌, Some};
+ghost use Rattle.files.specs.Wording.{shown_byte, dots, shown_token};
 
 use hexadecimal::HexByte;
 use std::fmt;
@@ -23,6 +23,13 @@ impl fmt::Display for ShownByte {
     }
 }
 
+// What stands behind the bytes of a token that are shown.
+fn dots(token: &[u8]) -> &'static str
+    ensures { result.now ≡ dots token.now }
+{
+    if token.len() > SHOWN { "..." } else { "" }
+}
+
 // A token: its first bytes, and dots where there are more.
 #[derive(Clone, Copy)]
 pub struct Shown<'a>(pub &'a [u8]);
@@ -34,9 +41,6 @@ impl fmt::Display for Shown<'_> {
         for byte in self.0.iter().take(SHOWN) {
             write!(f, "{}", ShownByte(*byte))?;
         }
-        if self.0.len() > SHOWN {
-            write!(f, "...")?;
-        }
-        Ok(())
+        write!(f, "{}", dots(self.0))
     }
 }

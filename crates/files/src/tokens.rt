@@ -23,10 +23,11 @@ fn is_blank(byte: u8) -> bool
 fn without_comment(line: &[u8]) -> &[u8]
     ensures { result.now ≡ uncommented line.now }
 {
-    match line.windows(2).position(|pair| matches!(pair, b"//")) {
-        Some(start) => &line[..start],
-        None => line,
-    }
+    let end = line
+        .windows(2)
+        .position(|pair| matches!(pair, b"//"))
+        .unwrap_or(line.len());
+    &line[..end]
 }
 
 // Adds the tokens of the line with this number.

@@ -3,11 +3,8 @@ use Rattle.std.proofs.Common.{map, ap, ◌∙◌, subst}
 use Rattle.std.proofs.lemmas.Result.{err_from_is_err_and}
 use Rattle.files.specs.Reading.{Faults}
 use Rattle.files.specs.Views.{token_of}
-use Rattle.files.proofs.Collecting.{word_more, fault_here}
+use Rattle.files.proofs.Collecting.{fault_here}
 use Rattle.files.proofs.reader.read.Goals as goal
-
-pub loop-token-preserved : goal.loop-token-preserved
-loop-token-preserved g c = word_more g.W.Word.value token_of c.deref-token-items.result.now c.loop-token.token-index _ _ c.loop-token-test.true c.loop-token.invariant _ _ c.in_ok-word.ensures c.in_ok-push.ensures.items
 
 pub returns-in_err-word : goal.returns-in_err-word
 returns-in_err-word g c =
