@@ -1,6 +1,6 @@
 -- Words collected token by token.
-use Rattle.std.proofs.Common.{◌≡◌, ℕ, ◌+◌, ◌<◌, List, [], ◌∷◌, ◌++◌, map, length, get_or, take, drop, Some, Err, Option, sym, ap, ◌∙◌}
-use Rattle.std.proofs.lemmas.List.{map-append, map_push, map_more, drop_more, take-append-drop}
+use Rattle.std.proofs.Common.{◌≡◌, ℕ, ◌+◌, ◌<◌, List, ◌∷◌, ◌++◌, map, length, get_or, take, drop, Err, Option, sym, ap, ◌∙◌}
+use Rattle.std.proofs.lemmas.List.{map-append, drop_more, take-append-drop}
 use Rattle.files.specs.Texts.{Token}
 use Rattle.files.specs.Reading.{AreWords, Faults, IsRead}
 use Rattle.files.specs.declared.fault.Digits.{Digits}
@@ -13,10 +13,6 @@ split_here f xs i d h =
     ap (map f) (sym (take-append-drop i xs) ∙ ap (λ l. take i xs ++ l) (drop_more xs i d h)) ∙ map-append f (take i xs) (get_or xs i d ∷ drop (i + 1) xs)
 
 module _ {W X : Type 0} (value : List ℕ → Option W) (f : X → Token) (xs : List X) (i : ℕ) (d : X) (ws : List W) (h : i < length xs) (so_far : AreWords value (map f (take i xs)) ws) where
-  -- one word more
-  pub word_more : (w : W) (now : List W) → value (f (get_or xs i d)).bytes ≡ Some w → now ≡ ws ++ w ∷ [] → AreWords value (map f (take (i + 1) xs)) now
-  word_more w now read push = rw (map_more f xs i d h, push, map_push, map_push, so_far, read)
-
   -- the token is the first that is no word
   pub fault_here : (digits : Digits) (fault : Fault) → IsRead value digits (f (get_or xs i d)) (Err fault) → Faults value digits (map f xs) fault
   fault_here digits (Malformed line width found) (bad, at_line, of_width, as_shown) = (

@@ -7,8 +7,8 @@ use std::alloc::{AllocError, AllocFailed};
 // How many hexadecimal digits a word has.
 #[derive(Clone, Copy, PartialEq, Eq, Debug)]
 pub enum Digits {
-    Four,
-    Eight,
+    Four = 4,
+    Eight = 8,
 }
 
 // `line` counts from 1, `found` shows the token that is no word, and `bytes` is the file's length.

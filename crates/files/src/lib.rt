@@ -6,8 +6,8 @@ mod formats;
 mod message;
 mod reader;
 mod shown;
-mod token;
 mod tokens;
+mod word;
 
 pub use fault::{Digits, Fault};
 pub use formats::{image_binary, image_text, sheet_text};

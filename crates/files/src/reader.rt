@@ -5,8 +5,8 @@ ghost use Rattle.files.specs.Views.{token_of};
 
 use crate::fault::Fault;
 use crate::shown::Shown;
-use crate::token::Word;
 use crate::tokens::{Token, tokens};
+use crate::word::Word;
 use std::alloc::Global;
 
 impl Token<'_> {

@@ -41,6 +41,6 @@ impl fmt::Display for Shown<'_> {
         for byte in self.0.iter().take(SHOWN) {
             write!(f, "{}", ShownByte(*byte))?;
         }
-        write!(f, "{}", dots(self.0))
+        f.write_str(dots(self.0))
     }
 }

@@ -15,4 +15,4 @@ returns-clause-writes g c plain ok =
     YieldsList-at c.into_iter-byte-iterator.ensures.into_iter_gives (YieldsList-from_take 24 (YieldsList-at c.take-byte-items.ensures.source (YieldsList-from_slice bytes c.iter.ensures.rest)) c.take-byte-items.ensures.count) in
     let end = YieldsList-end road _ _ c.loop-byte.yielded_by None c.next.new.self refl c.in-None.ensures.steps in
     let front = c.loop-byte.invariant.2 plain in
-    put_two _ _ _ _ _ _ _ front (c.write-2.ensures.writes front.plain ok) (ap (λ l. flat_map shown_byte l ++ c.dots.result.now) end.0 ∙ ap (λ l. flat_map shown_byte (take 24 bytes) ++ l) c.dots.ensures)
+    put_two _ _ _ _ _ _ _ front (c.write_str.ensures.writes front.plain ok) (ap (λ l. flat_map shown_byte l ++ c.dots.result.now) end.0 ∙ ap (λ l. flat_map shown_byte (take 24 bytes) ++ l) c.dots.ensures)

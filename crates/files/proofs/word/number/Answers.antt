@@ -1,7 +1,7 @@
 -- Digit by digit.
 use Rattle.std.proofs.Common.{get_or, sym, arith}
 use Rattle.files.proofs.Numbers.{value_small, at_most_eight, grows_within}
-use Rattle.files.proofs.token.number.Goals as goal
+use Rattle.files.proofs.word.number.Goals as goal
 
 pub overflow_mul-number : goal.overflow_mul-number
 overflow_mul-number c =

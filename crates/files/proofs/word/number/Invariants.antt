@@ -1,6 +1,6 @@
 use Rattle.std.proofs.Common.{◌≡◌, ◌^◌, ◌<◌, drop}
 use Rattle.files.specs.Words.{number_on}
-use Rattle.files.proofs.token.number.Given as goal
+use Rattle.files.proofs.word.number.Given as goal
 
 -- the digits so far are read, and the number has as many
 abbrev pub invariant-loop-byte : goal.invariant-loop-byte
