@@ -25,20 +25,20 @@ impl<D, B> Layer<D, B> {
 }
 
 fn selects<D: Device>(base: u8, at: u8) -> bool
-    ensures { result ≡ selects D.bits base at }
+    ensures { result ≡ selects D.N base at }
 {
-    u16::from(at) >> D::bits() == u16::from(base) >> D::bits()
+    u16::from(at) >> D::N == u16::from(base) >> D::N
 }
 
 fn offset<D: Device>(at: u8) -> u8
-    ensures low { result ≡ at % 2 ^ D.bits }
-    ensures within { result < 2 ^ D.bits }
+    ensures low { result ≡ at % 2 ^ D.N }
+    ensures within { result < 2 ^ D.N }
 {
-    (u16::from(at) % (1 << D::bits())) as u8
+    (u16::from(at) % (1 << D::N)) as u8
 }
 
 impl<D: Device, B: Bus> Bus for Layer<D, B> {
-    ghost meaning = { layer D.Device.bits D.Device.meaning B.Bus.meaning };
+    ghost meaning = { layer D.Device.N D.Device.meaning B.Bus.meaning };
 
     ghost kind = { Prim.search rules };
 

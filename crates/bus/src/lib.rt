@@ -50,44 +50,40 @@ pub trait Bus {
 pub trait Device {
     const N: u32;
 
-    ghost bits: { ℕ };
+    ghost N: { ℕ };
 
     ghost meaning: { Meaning Self };
 
-    // N, for code over any device.
-    fn bits() -> u32
-        ensures { result ≡ bits };
-
     fn read(&mut self, at: u8) -> u8
-        requires { at < 2 ^ bits }
+        requires { at < 2 ^ N }
         ensures answer { result ≡ meaning.reads self.old at }
         ensures after { self.new ≡ meaning.after self.old (read at) };
 
     fn write(&mut self, at: u8, byte: u8)
-        requires { at < 2 ^ bits }
+        requires { at < 2 ^ N }
         ensures { self.new ≡ meaning.after self.old (write at byte) };
 
     fn clock(&mut self)
         ensures { self.new ≡ meaning.after self.old clock };
 
     fn drive(&mut self, at: u8, byte: u8)
-        requires { at < 2 ^ bits }
+        requires { at < 2 ^ N }
         ensures { self.new ≡ meaning.after self.old (drive at byte) };
 
     fn requests(&self) -> bool
         ensures { result ≡ meaning.requests self.now };
 
     fn keeps(&self, at: u8) -> bool
-        requires { at < 2 ^ bits }
+        requires { at < 2 ^ N }
         ensures { result ≡ meaning.keeps self.now at };
 
-    ghost range: { bits ≤ 8 };
+    ghost range: { N ≤ 8 };
 
-    ghost kind: { KindStays (2 ^ bits) meaning };
+    ghost kind: { KindStays (2 ^ N) meaning };
 
-    ghost kept: { KeptReadsCell (2 ^ bits) meaning };
+    ghost kept: { KeptReadsCell (2 ^ N) meaning };
 
-    ghost written: { WriteSetsCell (2 ^ bits) meaning };
+    ghost written: { WriteSetsCell (2 ^ N) meaning };
 
-    ghost quiet: { QuietAltersNoCell (2 ^ bits) meaning };
+    ghost quiet: { QuietAltersNoCell (2 ^ N) meaning };
 }

@@ -38,7 +38,7 @@ fn all_zero() -> Buttons
 impl Device for Buttons {
     const N: u32 = 2;
 
-    ghost bits = { 2 };
+    ghost N = { 2 };
 
     ghost meaning = { buttons };
 
@@ -51,10 +51,6 @@ impl Device for Buttons {
     ghost written = { Prim.search rules };
 
     ghost quiet = { Prim.search rules };
-
-    fn bits() -> u32 {
-        Self::N
-    }
 
     fn read(&mut self, at: u8) -> u8 {
         match at {

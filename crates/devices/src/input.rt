@@ -25,7 +25,7 @@ impl Input {
 impl Device for Input {
     const N: u32 = 0;
 
-    ghost bits = { 0 };
+    ghost N = { 0 };
 
     ghost meaning = { input };
 
@@ -38,10 +38,6 @@ impl Device for Input {
     ghost written = { Prim.search rules };
 
     ghost quiet = { Prim.search rules };
-
-    fn bits() -> u32 {
-        Self::N
-    }
 
     fn read(&mut self, _at: u8) -> u8 {
         self.register

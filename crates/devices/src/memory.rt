@@ -22,7 +22,7 @@ impl Memory {
 impl Device for Memory {
     const N: u32 = 7;
 
-    ghost bits = { 7 };
+    ghost N = { 7 };
 
     ghost meaning = { memory };
 
@@ -35,10 +35,6 @@ impl Device for Memory {
     ghost written = { Prim.search rules };
 
     ghost quiet = { Prim.search rules };
-
-    fn bits() -> u32 {
-        Self::N
-    }
 
     fn read(&mut self, at: u8) -> u8 {
         self.cells[at as usize]

@@ -21,7 +21,7 @@ impl Output {
 impl Device for Output {
     const N: u32 = 0;
 
-    ghost bits = { 0 };
+    ghost N = { 0 };
 
     ghost meaning = { output };
 
@@ -34,10 +34,6 @@ impl Device for Output {
     ghost written = { Prim.search rules };
 
     ghost quiet = { Prim.search rules };
-
-    fn bits() -> u32 {
-        Self::N
-    }
 
     fn read(&mut self, _at: u8) -> u8 {
         self.byte
