@@ -10,13 +10,7 @@ pub struct Empty;
 impl Bus for Empty {
     ghost meaning = { empty };
 
-    ghost kind = { Prim.search rules };
-
-    ghost kept = { Prim.search rules };
-
-    ghost written = { Prim.search rules };
-
-    ghost quiet = { Prim.search rules };
+    ghost laws = { Prim.search rules };
 
     fn read(&mut self, _at: u8) -> u8 {
         0

@@ -40,13 +40,7 @@ fn offset<D: Device>(at: u8) -> u8
 impl<D: Device, B: Bus> Bus for Layer<D, B> {
     ghost meaning = { layer D.Device.N D.Device.meaning B.Bus.meaning };
 
-    ghost kind = { Prim.search rules };
-
-    ghost kept = { Prim.search rules };
-
-    ghost written = { Prim.search rules };
-
-    ghost quiet = { Prim.search rules };
+    ghost laws = { Prim.search rules };
 
     fn read(&mut self, at: u8) -> u8 {
         if selects::<D>(self.base, at) {

@@ -2,7 +2,7 @@
 #![tactic(auto)]
 
 ghost use Rattle.std.specs.Prelude.{ℕ, ◌<◌, ◌^◌, ◌≤◌, ◌≡◌};
-ghost use Rattle.bus.specs.Meaning.{KeptReadsCell, KindStays, Meaning, QuietAltersNoCell, WriteSetsCell, clock, drive, read, write};
+ghost use Rattle.bus.specs.Meaning.{Laws, Meaning, clock, drive, read, write};
 
 mod empty;
 mod layers;
@@ -37,13 +37,7 @@ pub trait Bus {
     fn keeps(&self, at: u8) -> bool
         ensures { result ≡ meaning.keeps self.now at };
 
-    ghost kind: { KindStays 256 meaning };
-
-    ghost kept: { KeptReadsCell 256 meaning };
-
-    ghost written: { WriteSetsCell 256 meaning };
-
-    ghost quiet: { QuietAltersNoCell 256 meaning };
+    ghost laws: { Laws 256 meaning };
 }
 
 // A device does at the offsets 0 to 2 ^ N - 1 what a bus does at its addresses.
@@ -79,11 +73,5 @@ pub trait Device {
 
     ghost range: { N ≤ 8 };
 
-    ghost kind: { KindStays (2 ^ N) meaning };
-
-    ghost kept: { KeptReadsCell (2 ^ N) meaning };
-
-    ghost written: { WriteSetsCell (2 ^ N) meaning };
-
-    ghost quiet: { QuietAltersNoCell (2 ^ N) meaning };
+    ghost laws: { Laws (2 ^ N) meaning };
 }

@@ -28,13 +28,7 @@ impl Device for Memory {
 
     ghost range = { Prim.search rules };
 
-    ghost kind = { Prim.search rules };
-
-    ghost kept = { Prim.search rules };
-
-    ghost written = { Prim.search rules };
-
-    ghost quiet = { Prim.search rules };
+    ghost laws = { Prim.search rules };
 
     fn read(&mut self, at: u8) -> u8 {
         self.cells[at as usize]

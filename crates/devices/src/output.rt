@@ -27,13 +27,7 @@ impl Device for Output {
 
     ghost range = { Prim.search rules };
 
-    ghost kind = { Prim.search rules };
-
-    ghost kept = { Prim.search rules };
-
-    ghost written = { Prim.search rules };
-
-    ghost quiet = { Prim.search rules };
+    ghost laws = { Prim.search rules };
 
     fn read(&mut self, _at: u8) -> u8 {
         self.byte
