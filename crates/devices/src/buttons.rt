@@ -4,6 +4,13 @@ ghost use Rattle.std.proofs.Common.{rules};
 
 use bus::Device;
 
+// The offset of the register, that of the enable bits and that of the flags.
+const REGISTER: u8 = 0;
+
+const ENABLES: u8 = 1;
+
+const FLAGS: u8 = 2;
+
 // A register as an input's, with a flag for each bit that a clock changed and an enable bit for each flag.
 #[derive(Drop)]
 pub struct Buttons {
@@ -14,24 +21,20 @@ pub struct Buttons {
 }
 
 impl Buttons {
+    // All 0, with no line pressed. The clauses after the first say what the bits of every condition tell.
+    #[tactic(auto, using(crate::proofs::Bits::flags_tell_changes, crate::proofs::Bits::ones_clear_flags, crate::proofs::Bits::requests_for_enabled_flags))]
     pub fn new() -> Buttons
         ensures made { result ≡ new_buttons }
         ensures changes { FlagsTellChanges }
         ensures clears { OnesClearFlags }
         ensures requests { RequestsForEnabledFlags }
     {
-        all_zero()
-    }
-}
-
-fn all_zero() -> Buttons
-    ensures { result ≡ new_buttons }
-{
-    Buttons {
-        lines: 0,
-        register: 0,
-        enables: 0,
-        flags: 0,
+        Buttons {
+            lines: 0,
+            register: 0,
+            enables: 0,
+            flags: 0,
+        }
     }
 }
 
@@ -48,17 +51,17 @@ impl Device for Buttons {
 
     fn read(&mut self, at: u8) -> u8 {
         match at {
-            0 => self.register,
-            1 => self.enables,
-            2 => self.flags,
+            REGISTER => self.register,
+            ENABLES => self.enables,
+            FLAGS => self.flags,
             _ => 0,
         }
     }
 
     fn write(&mut self, at: u8, byte: u8) {
         match at {
-            1 => self.enables = byte,
-            2 => self.flags &= !byte,
+            ENABLES => self.enables = byte,
+            FLAGS => self.flags &= !byte,
             _ => {}
         }
     }
@@ -77,6 +80,6 @@ impl Device for Buttons {
     }
 
     fn keeps(&self, at: u8) -> bool {
-        at == 1
+        at == ENABLES
     }
 }
