@@ -1,5 +1,6 @@
 -- The buttons: an input that remembers the changes of its register, bit by bit, and requests for those enabled.
-use Rattle.std.specs.Prelude.{◌≡◌, ◌↔◌, true, not, cond, ℕ, ◌-◌, ◌/◌, ◌%◌, ◌^◌, ◌<◌, eqb}
+use Rattle.std.specs.Prelude.{◌≡◌, ◌↔◌, true, not, cond, ℕ, ◌-◌, ◌<◌, eqb}
+use Rattle.std.specs.Int.{bit_at}
 use Rattle.std.specs.Int.Bits.{bit_and, bit_or, bit_xor}
 use Rattle.bus.specs.Meaning.{Meaning, Event, read, write, clock, drive}
 use Rattle.devices.specs.declared.buttons.Buttons.{Buttons}
@@ -39,22 +40,18 @@ buttons = record {
   after = buttons_after;
 }
 
--- bit i of a byte
-abbrev pub bit : ℕ → ℕ → ℕ
-bit i n = n / 2 ^ i % 2
-
 -- a clock sets the flag of each register bit that it changes, and leaves the other flags
 abbrev pub FlagsTellChanges : Type 0
 FlagsTellChanges =
     (s : Buttons) (i : ℕ) →
-    bit i (buttons_after s clock).flags ≡ cond (eqb (bit i s.register) (bit i (buttons_after s clock).register)) (bit i s.flags) 1
+    bit_at (buttons_after s clock).flags i ≡ cond (eqb (bit_at s.register i) (bit_at (buttons_after s clock).register i)) (bit_at s.flags i) 1
 
 -- a written 1 clears a flag, a written 0 leaves it
 abbrev pub OnesClearFlags : Type 0
 OnesClearFlags =
-    (s : Buttons) (i v : ℕ) → i < 8 → v < 256 → bit i (buttons_after s (write 2 v)).flags ≡ cond (eqb (bit i v) 1) 0 (bit i s.flags)
+    (s : Buttons) (i v : ℕ) → i < 8 → v < 256 → bit_at (buttons_after s (write 2 v)).flags i ≡ cond (eqb (bit_at v i) 1) 0 (bit_at s.flags i)
 
 -- the buttons request exactly while some flag and its enable bit are 1
 abbrev pub RequestsForEnabledFlags : Type 0
 RequestsForEnabledFlags =
-    (s : Buttons) → (buttons.requests s ≡ true) ↔ ((i : ℕ) × (bit i s.flags ≡ 1) × (bit i s.enables ≡ 1))
+    (s : Buttons) → (buttons.requests s ≡ true) ↔ ((i : ℕ) × (bit_at s.flags i ≡ 1) × (bit_at s.enables i ≡ 1))
