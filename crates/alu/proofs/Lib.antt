@@ -1,3 +1,3 @@
 pub mod Shifts
-pub mod Tellings
+pub mod Exact
 pub mod Examples

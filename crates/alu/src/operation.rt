@@ -1,24 +1,15 @@
 // Operations on a register and a second operand, and the swap of a byte's halves.
 ghost use Rattle.std.specs.Prelude.{◌≡◌};
-ghost use Rattle.alu.specs.Results.{only_judged, exchanged, swapped, computed};
+ghost use Rattle.alu.specs.Results.{exchanged, swapped, computed};
 ghost use Rattle.alu.specs.Laws.{Exact, HalvesSwapped};
 
-use crate::arithmetic::{add, judge, subtract};
+use crate::arithmetic::{add, subtract};
 use crate::flags::Flags;
 use crate::outcome::Outcome;
 use isa::AluOperation;
 
-// A result that sets Z and N only.
-fn plain(value: u8, flags: Flags) -> Outcome
-    ensures { result ≡ only_judged value flags }
-{
-    Outcome {
-        value,
-        flags: judge(flags, value),
-    }
-}
-
 // The two halves of a byte, exchanged.
+#[tactic(auto, using(crate::proofs::Shifts::or_halves))]
 fn halves(byte: u8) -> u8
     ensures { result ≡ exchanged byte }
 {
@@ -30,7 +21,7 @@ pub fn swap(a: u8, flags: Flags) -> Outcome
     ensures result { result ≡ swapped a flags }
     ensures law { HalvesSwapped a flags result }
 {
-    plain(halves(a), flags)
+    Outcome::judged(halves(a), flags)
 }
 
 // ADC takes in C as a carry, SBC as a borrow; CMP is SUB and TST is AND, their results to be dropped.
@@ -42,13 +33,14 @@ fn by_operation(operation: AluOperation, a: u8, b: u8, flags: Flags) -> Outcome
         AluOperation::Adc => add(a, b, flags.c, flags),
         AluOperation::Sub | AluOperation::Cmp => subtract(a, b, false, flags),
         AluOperation::Sbc => subtract(a, b, flags.c, flags),
-        AluOperation::And | AluOperation::Tst => plain(a & b, flags),
-        AluOperation::Or => plain(a | b, flags),
-        AluOperation::Xor => plain(a ^ b, flags),
+        AluOperation::And | AluOperation::Tst => Outcome::judged(a & b, flags),
+        AluOperation::Or => Outcome::judged(a | b, flags),
+        AluOperation::Xor => Outcome::judged(a ^ b, flags),
     }
 }
 
 // The result and the flags of an operation on two bytes.
+#[tactic(auto, using(crate::proofs::Exact::exact))]
 pub fn compute(operation: AluOperation, a: u8, b: u8, flags: Flags) -> Outcome
     ensures result { result ≡ computed operation a b flags }
     ensures law { Exact operation a b flags result }
