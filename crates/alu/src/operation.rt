@@ -24,9 +24,12 @@ pub fn swap(a: u8, flags: Flags) -> Outcome
     Outcome::judged(halves(a), flags)
 }
 
-// ADC takes in C as a carry, SBC as a borrow; CMP is SUB and TST is AND, their results to be dropped.
-fn by_operation(operation: AluOperation, a: u8, b: u8, flags: Flags) -> Outcome
-    ensures { result ≡ computed operation a b flags }
+// The result and the flags of an operation on two bytes. ADC takes in C as a carry, SBC as a borrow; CMP is SUB and TST is
+// AND, their results to be dropped.
+#[tactic(auto, using(crate::proofs::Exact::exact))]
+pub fn compute(operation: AluOperation, a: u8, b: u8, flags: Flags) -> Outcome
+    ensures result { result ≡ computed operation a b flags }
+    ensures law { Exact operation a b flags result }
 {
     match operation {
         AluOperation::Add => add(a, b, false, flags),
@@ -37,13 +40,4 @@ fn by_operation(operation: AluOperation, a: u8, b: u8, flags: Flags) -> Outcome
         AluOperation::Or => Outcome::judged(a | b, flags),
         AluOperation::Xor => Outcome::judged(a ^ b, flags),
     }
-}
-
-// The result and the flags of an operation on two bytes.
-#[tactic(auto, using(crate::proofs::Exact::exact))]
-pub fn compute(operation: AluOperation, a: u8, b: u8, flags: Flags) -> Outcome
-    ensures result { result ≡ computed operation a b flags }
-    ensures law { Exact operation a b flags result }
-{
-    by_operation(operation, a, b, flags)
 }

@@ -52,9 +52,10 @@ fn outcome(value: u8, out: bool, flags: Flags) -> Outcome
     Outcome::judged(value, Flags { c: out, ..flags })
 }
 
-// To the left bit 7 is shifted out, to the right bit 0.
-fn by_shift(operation: ShiftOperation, a: u8, flags: Flags) -> Outcome
-    ensures { result ≡ shifted operation a flags }
+// The result and the flags of a shift or rotate. To the left bit 7 is shifted out, to the right bit 0.
+pub fn shift(operation: ShiftOperation, a: u8, flags: Flags) -> Outcome
+    ensures result { result ≡ shifted operation a flags }
+    ensures law { ExactShift operation a flags result }
 {
     let top = a >= 0x80;
     let bottom = a % 2 == 1;
@@ -69,12 +70,4 @@ fn by_shift(operation: ShiftOperation, a: u8, flags: Flags) -> Outcome
         ShiftOperation::Ror => outcome(rotated_right(a), bottom, flags),
         ShiftOperation::Rrc => outcome(right(a, flags.c), bottom, flags),
     }
-}
-
-// The result and the flags of a shift or rotate.
-pub fn shift(operation: ShiftOperation, a: u8, flags: Flags) -> Outcome
-    ensures result { result ≡ shifted operation a flags }
-    ensures law { ExactShift operation a flags result }
-{
-    by_shift(operation, a, flags)
 }
