@@ -93,18 +93,22 @@ pub record Ran (S : Type 0) : Type 0 where
   pub station : Station S
   pub access : Option Access
 
+-- a processor, a bus and an access as a word leaves them
+abbrev pub ran_to : {S : Type 0} → Processor → S → Option Access → Ran S
+ran_to p s access = record { station = record { processor = p; bus = s }; access = access }
+
 module _ {S : Type 0} (m : Meaning S) where
   -- no access: the bus stays
   abbrev pub alone : Processor → S → Ran S
-  alone p s = record { station = record { processor = p; bus = s }; access = None }
+  alone p s = ran_to p s None
 
   -- a load reads the bus at an address
   abbrev pub loaded : RegisterName → ℕ → Processor → S → Ran S
-  loaded x a p s = record { station = record { processor = received x (m.reads s a) p; bus = m.after s (read a) }; access = Some (Read a (m.reads s a)) }
+  loaded x a p s = ran_to (received x (m.reads s a) p) (m.after s (read a)) (Some (Read a (m.reads s a)))
 
   -- a store writes a byte to the bus at an address
   abbrev pub stored : ℕ → ℕ → Processor → S → Ran S
-  stored v a p s = record { station = record { processor = went_on p; bus = m.after s (write a v) }; access = Some (Write a v) }
+  stored v a p s = ran_to (went_on p) (m.after s (write a v)) (Some (Write a v))
 
   -- what an instruction does
   abbrev pub executed : Instruction → Processor → S → Ran S

@@ -29,6 +29,10 @@ pub record Stepped (S : Type 0) : Type 0 where
   pub station : Station S
   pub answer : StepRecord
 
+-- a processor, a bus and a record as a step leaves them
+abbrev pub stepped_to : {S : Type 0} → Processor → S → StepRecord → Stepped S
+stepped_to p s answer = record { station = station p s; answer = answer }
+
 module _ {S : Type 0} (m : Meaning S) where
   -- first, the bus gets three clocks
   abbrev pub clocked : S → S

@@ -1,14 +1,13 @@
 // What each instruction does.
 ghost use Rattle.std.specs.Prelude.{◌≡◌, Some};
 ghost use Rattle.machine.specs.Processors.{register_of, value_of, with_register, went_on};
-ghost use Rattle.isa.specs.Operations.{keeps_result};
-ghost use Rattle.machine.specs.Instructions.{holds, with_outcome, operated, moved, received, jumped, called, returned, returned_from_interrupt, enabled, halves_swapped, register_shifted, byte, loaded, stored, executed, ran};
+ghost use Rattle.machine.specs.Instructions.{byte, called, enabled, executed, holds, jumped, loaded, ran, ran_to, received, returned, returned_from_interrupt, stored, with_outcome};
 
 use crate::access::Access;
 use crate::processor::Processor;
 use alu::{Flags, Outcome, compute, shift, swap};
 use bus::Bus;
-use isa::{AluOperation, Condition, Instruction, Operand, RegisterName, ShiftOperation};
+use isa::{Condition, Instruction, Operand, RegisterName};
 
 // Whether a jump is taken.
 fn is_taken(condition: Condition, flags: Flags) -> bool
@@ -27,51 +26,31 @@ fn is_taken(condition: Condition, flags: Flags) -> bool
     }
 }
 
-// Whether an operation writes its result: TST and CMP do not.
-fn writes_result(operation: AluOperation) -> bool
-    ensures { result ≡ keeps_result operation }
-{
-    match operation {
-        AluOperation::Tst | AluOperation::Cmp => false,
-        _ => true,
-    }
-}
-
 impl Processor {
+    // The value of a register, which is a byte.
     fn register(&self, x: RegisterName) -> u8
-        ensures { result ≡ register_of x self.now }
+        ensures value { result ≡ register_of x self.now }
+        ensures on_bus { result ≡ byte (register_of x self.now) }
     {
         self.registers[x.number() as usize]
     }
 
+    // A register is set to a value.
     fn set_register(&mut self, x: RegisterName, value: u8)
         ensures { self.new ≡ with_register x value self.old }
     {
         self.registers[x.number() as usize] = value;
     }
 
-    // The value of a second operand.
+    // The value of a second operand, which is a byte.
     fn value(&self, operand: Operand) -> u8
-        ensures { result ≡ value_of operand self.now }
+        ensures value { result ≡ value_of operand self.now }
+        ensures on_bus { result ≡ byte (value_of operand self.now) }
     {
         match operand {
             Operand::Register(y) => self.register(y),
             Operand::Constant(k) => k,
         }
-    }
-
-    // The address that an operand puts on the bus.
-    fn address(&self, operand: Operand) -> u8
-        ensures { result ≡ byte (value_of operand self.now) }
-    {
-        self.value(operand)
-    }
-
-    // The byte that a register puts on the bus.
-    fn data(&self, x: RegisterName) -> u8
-        ensures { result ≡ byte (register_of x self.now) }
-    {
-        self.register(x)
     }
 
     // The program counter goes on by one, from 255 to 0.
@@ -81,33 +60,18 @@ impl Processor {
         self.pc = self.pc.wrapping_add(1);
     }
 
-    // An outcome goes to the flags and to a register, or to the flags alone.
+    // An outcome goes to the flags and to a register, or to the flags alone; the program counter goes on.
     fn keep(&mut self, written: bool, x: RegisterName, outcome: Outcome)
-        ensures { self.new ≡ with_outcome written x outcome self.old }
+        ensures { self.new ≡ went_on (with_outcome written x outcome self.old) }
     {
         self.flags = outcome.flags;
         if written {
             self.set_register(x, outcome.value);
         }
-    }
-
-    fn operate(&mut self, operation: AluOperation, x: RegisterName, operand: Operand)
-        ensures { self.new ≡ operated operation x operand self.old }
-    {
-        let outcome = compute(operation, self.register(x), self.value(operand), self.flags);
-        self.keep(writes_result(operation), x, outcome);
         self.go_on();
     }
 
-    fn move_to(&mut self, x: RegisterName, operand: Operand)
-        ensures { self.new ≡ moved x operand self.old }
-    {
-        let value = self.value(operand);
-        self.set_register(x, value);
-        self.go_on();
-    }
-
-    // A register becomes the byte that its load was answered.
+    // A register becomes a byte: the value of an operand, or what a load was answered.
     fn receive(&mut self, x: RegisterName, byte: u8)
         ensures { self.new ≡ received x byte self.old }
     {
@@ -115,6 +79,7 @@ impl Processor {
         self.go_on();
     }
 
+    // A jump goes to its target if it is taken, else on.
     fn jump(&mut self, taken: bool, target: u8)
         ensures { self.new ≡ jumped taken target self.old }
     {
@@ -150,6 +115,7 @@ impl Processor {
         self.flags = word.flags;
     }
 
+    // IE becomes 1, or 0; the other flags stay.
     fn enable_interrupts(&mut self, enable: bool)
         ensures { self.new ≡ enabled enable self.old }
     {
@@ -157,27 +123,9 @@ impl Processor {
         self.go_on();
     }
 
-    fn swap_halves(&mut self, x: RegisterName)
-        ensures { self.new ≡ halves_swapped x self.old }
-    {
-        let outcome = swap(self.register(x), self.flags);
-        self.keep(true, x, outcome);
-        self.go_on();
-    }
-
-    fn shift_register(&mut self, operation: ShiftOperation, x: RegisterName)
-        ensures { self.new ≡ register_shifted operation x self.old }
-    {
-        let outcome = shift(operation, self.register(x), self.flags);
-        self.keep(true, x, outcome);
-        self.go_on();
-    }
-
     // A register becomes the byte read at an address.
     fn load<B: Bus>(&mut self, x: RegisterName, at: u8, bus: &mut B) -> Access
-        ensures processor { self.new ≡ (loaded B.meaning x at self.old bus.old).station.processor }
-        ensures bus { bus.new ≡ (loaded B.meaning x at self.old bus.old).station.bus }
-        ensures access { Some result ≡ (loaded B.meaning x at self.old bus.old).access }
+        ensures { ran_to self.new bus.new (Some result) ≡ loaded B.meaning x at self.old bus.old }
     {
         let byte = bus.read(at);
         self.receive(x, byte);
@@ -186,9 +134,7 @@ impl Processor {
 
     // A byte is written to an address.
     fn store<B: Bus>(&mut self, byte: u8, at: u8, bus: &mut B) -> Access
-        ensures processor { self.new ≡ (stored B.meaning byte at self.old bus.old).station.processor }
-        ensures bus { bus.new ≡ (stored B.meaning byte at self.old bus.old).station.bus }
-        ensures access { Some result ≡ (stored B.meaning byte at self.old bus.old).access }
+        ensures { ran_to self.new bus.new (Some result) ≡ stored B.meaning byte at self.old bus.old }
     {
         bus.write(at, byte);
         self.go_on();
@@ -197,17 +143,19 @@ impl Processor {
 
     // One instruction, with the access that it makes.
     fn execute<B: Bus>(&mut self, instruction: Instruction, bus: &mut B) -> Option<Access>
-        ensures processor { self.new ≡ (executed B.meaning instruction self.old bus.old).station.processor }
-        ensures bus { bus.new ≡ (executed B.meaning instruction self.old bus.old).station.bus }
-        ensures access { result ≡ (executed B.meaning instruction self.old bus.old).access }
+        ensures { ran_to self.new bus.new result ≡ executed B.meaning instruction self.old bus.old }
     {
         match instruction {
-            Instruction::Load(x, operand) => return Some(self.load(x, self.address(operand), bus)),
+            Instruction::Load(x, operand) => return Some(self.load(x, self.value(operand), bus)),
             Instruction::Store(x, operand) => {
-                return Some(self.store(self.data(x), self.address(operand), bus));
+                return Some(self.store(self.register(x), self.value(operand), bus));
             }
-            Instruction::Alu(operation, x, operand) => self.operate(operation, x, operand),
-            Instruction::Move(x, operand) => self.move_to(x, operand),
+            Instruction::Alu(operation, x, operand) => self.keep(
+                operation.keeps_result(),
+                x,
+                compute(operation, self.register(x), self.value(operand), self.flags),
+            ),
+            Instruction::Move(x, operand) => self.receive(x, self.value(operand)),
             Instruction::Jump(condition, operand) => {
                 self.jump(is_taken(condition, self.flags), self.value(operand))
             }
@@ -216,8 +164,12 @@ impl Processor {
             Instruction::ReturnFromInterrupt => self.return_from_interrupt(),
             Instruction::DisableInterrupts => self.enable_interrupts(false),
             Instruction::EnableInterrupts => self.enable_interrupts(true),
-            Instruction::Swap(x) => self.swap_halves(x),
-            Instruction::Shift(operation, x) => self.shift_register(operation, x),
+            Instruction::Swap(x) => self.keep(true, x, swap(self.register(x), self.flags)),
+            Instruction::Shift(operation, x) => self.keep(
+                true,
+                x,
+                shift(operation, self.register(x), self.flags),
+            ),
         }
         None
     }
@@ -228,9 +180,7 @@ impl Processor {
         instruction: Option<Instruction>,
         bus: &mut B,
     ) -> Option<Access>
-        ensures processor { self.new ≡ (ran B.meaning instruction self.old bus.old).station.processor }
-        ensures bus { bus.new ≡ (ran B.meaning instruction self.old bus.old).station.bus }
-        ensures access { result ≡ (ran B.meaning instruction self.old bus.old).access }
+        ensures { ran_to self.new bus.new result ≡ ran B.meaning instruction self.old bus.old }
     {
         match instruction {
             Some(instruction) => self.execute(instruction, bus),

@@ -6,12 +6,13 @@ use crate::pointer::StackPointer;
 use alu::Flags;
 
 // A stack word: a program counter and the six flags.
-#[derive(Clone, Copy)]
+#[derive(Clone, Copy, Default)]
 pub struct Saved {
     pub pc: u8,
     pub flags: Flags,
 }
 
+// Its program counter, sixteen registers, six flags, and a stack of sixteen places with its pointer.
 #[derive(Clone, Copy)]
 pub struct Processor {
     pub pc: u8,
@@ -21,22 +22,6 @@ pub struct Processor {
     pub sp: StackPointer,
 }
 
-// All six flags 0.
-const NO_FLAGS: Flags = Flags {
-    z: false,
-    c: false,
-    n: false,
-    v: false,
-    ie: false,
-    handling: false,
-};
-
-// A stack word that is all 0.
-const NOTHING: Saved = Saved {
-    pc: 0,
-    flags: NO_FLAGS,
-};
-
 impl Processor {
     // All 0.
     pub fn new() -> Self
@@ -45,8 +30,8 @@ impl Processor {
         Processor {
             pc: 0,
             registers: [0; 16],
-            flags: NO_FLAGS,
-            stack: [NOTHING; 16],
+            flags: Flags::default(),
+            stack: [Saved::default(); 16],
             sp: StackPointer::at(0),
         }
     }

@@ -16,8 +16,10 @@ impl Processor {
     pub(crate) fn push(&mut self, pc: u8)
         ensures { self.new ≡ pushed pc self.old }
     {
-        let flags = self.flags;
-        self.stack[self.sp.place() as usize] = Saved { pc, flags };
+        self.stack[self.sp.place() as usize] = Saved {
+            pc,
+            flags: self.flags,
+        };
         self.sp = self.sp.up();
     }
 

@@ -1,7 +1,0 @@
-use Rattle.std.proofs.Common.{None, sym, ◌∙◌, arith}
-use Rattle.std.proofs.lemmas.List.{get_or-map}
-use Rattle.isa.specs.Words.{decoded}
-use Rattle.machine.proofs.stepping.fetch.Goals as goal
-
-pub returns : goal.returns
-returns c = c.decode.ensures.reads ∙ sym (get_or-map decoded c.args.image.now c.args.at 0 None (omega arith))
