@@ -28,7 +28,7 @@ fn is_taken(condition: Condition, flags: Flags) -> bool
 
 impl Processor {
     // The value of a register, which is a byte.
-    fn register(&self, x: RegisterName) -> u8
+    pub fn register(&self, x: RegisterName) -> u8
         ensures value { result ≡ register_of x self.now }
         ensures on_bus { result ≡ byte (register_of x self.now) }
     {
@@ -36,7 +36,7 @@ impl Processor {
     }
 
     // A register is set to a value.
-    fn set_register(&mut self, x: RegisterName, value: u8)
+    pub fn set_register(&mut self, x: RegisterName, value: u8)
         ensures { self.new ≡ with_register x value self.old }
     {
         self.registers[x.number() as usize] = value;

@@ -1,13 +1,11 @@
 -- What peeks answer and what pokes leave.
-use Rattle.std.specs.Prelude.{ℕ, Bool, true, false, cond, List, set, Ok, Err, Result, nat_lt, slice_index, slice_set}
+use Rattle.std.specs.Prelude.{ℕ, Bool, cond, Ok, Err, Result, nat_lt, slice_index, slice_set}
 use Rattle.refusal.specs.declared.refusal.Refusal.{Refusal}
 use Rattle.refusal.specs.declared.refusal.Refusal.TheVariants.{Register as no_register, Port}
 use Rattle.alu.specs.declared.flags.Flags.{Flags}
 use Rattle.bus.specs.Meaning.{Meaning, read, write}
 use Rattle.machine.specs.declared.processor.Processor.{Processor}
 use Rattle.machine.specs.Processors.{at_pc, with_flags, top}
-use Rattle.machine.specs.Instructions.{Station}
-use Rattle.machine.specs.Steps.{station}
 use Rattle.claims.specs.Calls as Calls
 use Rattle.station.specs.declared.places.FlagName.{FlagName}
 use Rattle.station.specs.declared.places.FlagName.TheVariants.{Z, C, N, V, Ie, If}

@@ -5,6 +5,7 @@ ghost use Rattle.station.specs.Places.{with_flag, poke_answer, poke_processor, p
 use crate::places::{Poke, ResultFlag};
 use alu::Flags;
 use bus::Bus;
+use isa::RegisterName;
 use machine::Processor;
 use refusal::Refusal;
 
@@ -31,12 +32,7 @@ pub(crate) fn change<B: Bus>(
     ensures bus { bus.new ≡ poke_bus B.meaning poke bus.old }
 {
     match poke {
-        Poke::Register { number, byte } => {
-            if number >= 16 {
-                return Err(Refusal::Register);
-            }
-            processor.registers[number as usize] = byte;
-        }
+        Poke::Register { number, byte } => processor.set_register(RegisterName::new(number)?, byte),
         Poke::Cell { at, byte } => {
             if !bus.keeps(at) {
                 return Err(Refusal::Port);

@@ -5,9 +5,11 @@ ghost use Rattle.station.specs.Places.{flag_of, peek_answer, peek_bus};
 use crate::places::{FlagName, Peeked, Place};
 use alu::Flags;
 use bus::Bus;
+use isa::RegisterName;
 use machine::Processor;
 use refusal::Refusal;
 
+// A flag by its name.
 fn flag(name: FlagName, flags: Flags) -> bool
     ensures { result ≡ flag_of name flags }
 {
@@ -32,11 +34,7 @@ pub(crate) fn look<B: Bus>(
 {
     match place {
         Place::Register(number) => {
-            if number < 16 {
-                Ok(Peeked::Byte(processor.registers[number as usize]))
-            } else {
-                Err(Refusal::Register)
-            }
+            Ok(Peeked::Byte(processor.register(RegisterName::new(number)?)))
         }
         Place::Cell(at) => {
             if bus.keeps(at) {
