@@ -14,22 +14,18 @@ const LOOP: [u16; 10] = [
 
 fn main(rt: HostRuntime) -> Result<(), io::Error> {
     let mut image = [0xB000; 256];
-    for (at, word) in LOOP.iter().enumerate() {
-        if at < 256 {
-            image[at] = *word;
-        }
-    }
+    image[..LOOP.len()].copy_from_slice(&LOOP);
     let mut processor = Processor::new();
     let mut bus = desk([0; 128]);
-    let mut stores: u32 = 0;
+    let mut accesses: u32 = 0;
     for _ in 0..STEPS {
         let record = step(&image, &mut processor, &mut bus);
         if record.access.is_some() {
-            stores = stores.wrapping_add(1);
+            accesses = accesses.wrapping_add(1);
         }
     }
     println!(rt;
-        "{STEPS} steps, {stores} accesses, r0 {}",
+        "{STEPS} steps, {accesses} accesses, r0 {}",
         processor.registers[0]
     )
 }
