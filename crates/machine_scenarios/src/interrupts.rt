@@ -1,5 +1,5 @@
 // Presses of the first button that interrupt a program, on the desk's bus.
-use crate::station::{Station, follow};
+use crate::station::{Row, Station, follow};
 
 // JMP 0x02 · JMP 0x05 · STI · CMP r0, #0x00 · JMP 0x03, and at 5 MOV r8, #0xFF · MOV 0x86, r8 · RTI, which clears the flags.
 // The press falls between CMP, which sets Z, and JMP.
@@ -12,15 +12,15 @@ fn a_press_between_two_instructions(rt: HostRuntime) {
         &rt,
         &mut Station::new(0, &words),
         &[
-            (false, (0, false, false), 2, 0, ""),
-            (false, (2, false, false), 3, 0, "E"),
-            (false, (3, false, false), 4, 0, "ZE"),
-            (true, (4, false, true), 1, 1, "ZI"),
-            (false, (1, true, false), 5, 1, "ZI"),
-            (false, (5, true, false), 6, 1, "ZI"),
-            (false, (6, true, false), 7, 1, "ZI"),
-            (false, (7, true, false), 3, 0, "ZE"),
-            (false, (3, false, false), 4, 0, "ZE"),
+            Row::new(0, 2, 0, ""),
+            Row::new(2, 3, 0, "E"),
+            Row::new(3, 4, 0, "ZE"),
+            Row::new(4, 1, 1, "ZI").pressed().interrupted(),
+            Row::new(1, 5, 1, "ZI").in_handler(),
+            Row::new(5, 6, 1, "ZI").in_handler(),
+            Row::new(6, 7, 1, "ZI").in_handler(),
+            Row::new(7, 3, 0, "ZE").in_handler(),
+            Row::new(3, 4, 0, "ZE"),
         ],
     );
 }
@@ -32,9 +32,9 @@ fn the_next_acceptance_follows_rti_at_once(rt: HostRuntime) {
         &rt,
         &mut Station::new(0, &[0xBD00, 0xBB00]),
         &[
-            (true, (0, false, true), 1, 1, "I"),
-            (false, (1, true, true), 1, 1, "I"),
-            (false, (1, true, true), 1, 1, "I"),
+            Row::new(0, 1, 1, "I").pressed().interrupted(),
+            Row::new(1, 1, 1, "I").in_handler().interrupted(),
+            Row::new(1, 1, 1, "I").in_handler().interrupted(),
         ],
     );
 }
@@ -46,17 +46,17 @@ fn cli_right_before_a_request(rt: HostRuntime) {
         &rt,
         &mut Station::new(0, &[0xBD00, 0xBC00]),
         &[
-            (false, (0, false, false), 1, 0, "E"),
-            (true, (1, false, false), 2, 0, ""),
-            (false, (2, false, false), 3, 0, "Z"),
+            Row::new(0, 1, 0, "E"),
+            Row::new(1, 2, 0, "").pressed(),
+            Row::new(2, 3, 0, "Z"),
         ],
     );
     follow(
         &rt,
         &mut Station::new(0, &[0xBD00, 0x0000]),
         &[
-            (false, (0, false, false), 1, 0, "E"),
-            (true, (1, false, true), 1, 1, "ZI"),
+            Row::new(0, 1, 0, "E"),
+            Row::new(1, 1, 1, "ZI").pressed().interrupted(),
         ],
     );
 }
@@ -69,10 +69,7 @@ fn a_press_that_is_not_enabled(rt: HostRuntime) {
     follow(
         &rt,
         &mut station,
-        &[
-            (true, (0, false, false), 1, 0, "E"),
-            (false, (1, false, false), 2, 0, "ZE"),
-        ],
+        &[Row::new(0, 1, 0, "E").pressed(), Row::new(1, 2, 0, "ZE")],
     );
     assert_eq!(rt; station.read(0x86), 0x01);
 }

@@ -2,19 +2,12 @@
 use alu::Flags;
 use bus::Bus;
 use devices::{Desk, desk};
-use machine::{Access, Processor, step};
+use machine::{Processor, StepRecord, step};
 use std::process::Abort;
 
 // The flags whose letters stand in a text: Z, C, N, V, E for IE and I for IF.
 pub fn flags_of(letters: &str) -> Flags {
-    let mut flags = Flags {
-        z: false,
-        c: false,
-        n: false,
-        v: false,
-        ie: false,
-        handling: false,
-    };
+    let mut flags = Flags::default();
     for letter in letters.bytes() {
         match letter {
             b'Z' => flags.z = true,
@@ -28,26 +21,6 @@ pub fn flags_of(letters: &str) -> Flags {
     flags
 }
 
-pub fn check_flags(rt: &impl Abort, found: Flags, letters: &str) {
-    let due = flags_of(letters);
-    let found = (found.z, found.c, found.n, found.v, found.ie, found.handling);
-    assert_eq!(rt;
-        found,
-        (due.z, due.c, due.n, due.v, due.ie, due.handling),
-        "{}",
-        letters
-    );
-}
-
-// An access as its kind, address and byte.
-fn shown(access: Option<Access>) -> (&'static str, u8, u8) {
-    match access {
-        None => ("none", 0, 0),
-        Some(Access::Read { at, byte }) => ("read", at, byte),
-        Some(Access::Write { at, byte }) => ("write", at, byte),
-    }
-}
-
 #[derive(Drop)]
 pub struct Station {
     image: [u16; 256],
@@ -55,24 +28,12 @@ pub struct Station {
     bus: Desk,
 }
 
-// What is seen of a step: its record, and then PC, SP and the flags.
-#[derive(Clone, Copy)]
-pub struct Seen {
-    pub access: (&'static str, u8, u8),
-    pub course: (u8, bool, bool),
-    pub pc: u8,
-    pub sp: u8,
-    pub flags: Flags,
-}
-
 impl Station {
     // Some words from an address on, 0x0000 (ADD r0, #0x00) elsewhere; every memory cell 0x55; the first button enabled.
     pub fn new(start: usize, words: &[u16]) -> Station {
         let mut image = [0u16; 256];
-        for (at, word) in words.iter().enumerate() {
-            if at < 256 && start < 256 - at {
-                image[start + at] = *word;
-            }
+        for (place, word) in image.iter_mut().skip(start).zip(words) {
+            *place = *word;
         }
         let mut bus = desk([0x55; 128]);
         bus.write(0x85, 0x01);
@@ -96,31 +57,78 @@ impl Station {
         self.bus.write(at, byte);
     }
 
-    pub fn step(&mut self) -> Seen {
-        let record = step(&self.image, &mut self.processor, &mut self.bus);
-        Seen {
-            access: shown(record.access),
-            course: (record.address, record.handler, record.interrupted),
-            pc: self.processor.pc,
-            sp: self.processor.sp.place(),
-            flags: self.processor.flags,
+    pub fn step(&mut self) -> StepRecord {
+        step(&self.image, &mut self.processor, &mut self.bus)
+    }
+}
+
+// A step of a course: whether the button is pressed before it, what its record says but for the access, and PC, SP and the
+// flags after it.
+#[derive(Clone, Copy)]
+pub struct Row {
+    pressed: bool,
+    address: u8,
+    handler: bool,
+    interrupted: bool,
+    pc: u8,
+    sp: u8,
+    flags: &'static str,
+}
+
+impl Row {
+    // A step of the main program without a press and without an interrupt.
+    pub fn new(address: u8, pc: u8, sp: u8, flags: &'static str) -> Row {
+        Row {
+            pressed: false,
+            address,
+            handler: false,
+            interrupted: false,
+            pc,
+            sp,
+            flags,
+        }
+    }
+
+    // The same with a press before it.
+    pub fn pressed(self) -> Row {
+        Row {
+            pressed: true,
+            ..self
+        }
+    }
+
+    // The same in the handler.
+    pub fn in_handler(self) -> Row {
+        Row {
+            handler: true,
+            ..self
+        }
+    }
+
+    // The same with an interrupt accepted after it.
+    pub fn interrupted(self) -> Row {
+        Row {
+            interrupted: true,
+            ..self
         }
     }
 }
 
-// A step of a course: whether the button is pressed before it, the word's address, whether it was the handler's, whether
-// an interrupt was accepted, then PC, SP and the flags after it.
-pub type Row = (bool, (u8, bool, bool), u8, u8, &'static str);
-
 // Runs a course and compares each step with its row.
 pub fn follow(rt: &impl Abort, station: &mut Station, rows: &[Row]) {
     for row in rows {
-        let (pressed, course, pc, sp, flags) = *row;
-        if pressed {
+        if row.pressed {
             station.press();
         }
-        let seen = station.step();
-        assert_eq!(rt; (seen.course, seen.pc, seen.sp), (course, pc, sp));
-        check_flags(rt, seen.flags, flags);
+        let record = station.step();
+        assert_eq!(rt;
+            (record.address, record.handler, record.interrupted),
+            (row.address, row.handler, row.interrupted)
+        );
+        let processor = station.processor;
+        assert_eq!(rt;
+            (processor.pc, processor.sp.place(), processor.flags),
+            (row.pc, row.sp, flags_of(row.flags))
+        );
     }
 }
