@@ -140,8 +140,8 @@ fn the_upper_device_answers_alone(rt: HostRuntime) {
 #[test]
 fn the_desk_has_each_device_at_its_address(rt: HostRuntime) {
     let mut bus = desk([7; 128]);
-    for at in 0..256u16 {
-        assert_eq!(rt; bus.keeps(at as u8), at <= 0x80 || at == 0x85);
+    for at in 0..=u8::MAX {
+        assert_eq!(rt; bus.keeps(at), at <= 0x80 || at == 0x85);
     }
     let table = [
         (Event::Write(0x05, 0x15), 0x05, (0x15, true, false)),
