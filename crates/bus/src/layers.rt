@@ -1,4 +1,4 @@
-ghost use Rattle.std.specs.Prelude.{◌%◌, ◌<◌, ◌^◌, ◌≡◌};
+ghost use Rattle.std.specs.Prelude.{◌%◌, ◌<◌, ◌^◌, ◌≡◌, IfSome, Some, None, cond};
 ghost use Rattle.bus.specs.Layers.{layer, over, selects};
 ghost use Rattle.std.proofs.Common.{rules};
 
@@ -24,17 +24,18 @@ impl<D, B> Layer<D, B> {
     }
 }
 
-fn selects<D: Device>(base: u8, at: u8) -> bool
-    ensures { result ≡ selects D.N base at }
-{
-    u16::from(at) >> D::N == u16::from(base) >> D::N
-}
-
-fn offset<D: Device>(at: u8) -> u8
-    ensures low { result ≡ at % 2 ^ D.N }
-    ensures within { result < 2 ^ D.N }
-{
-    (u16::from(at) % (1 << D::N)) as u8
+impl<D: Device, B> Layer<D, B> {
+    // The device's offset of an address, where the address is the device's.
+    fn offset(&self, at: u8) -> Option<u8>
+        ensures selected { result ≡ cond (selects D.N self.now.base at) (Some (at % 2 ^ D.N)) None }
+        ensures within { IfSome result (λ o. o < 2 ^ D.N) }
+    {
+        if u16::from(at) >> D::N == u16::from(self.base) >> D::N {
+            Some((u16::from(at) % (1 << D::N)) as u8)
+        } else {
+            None
+        }
+    }
 }
 
 impl<D: Device, B: Bus> Bus for Layer<D, B> {
@@ -43,18 +44,16 @@ impl<D: Device, B: Bus> Bus for Layer<D, B> {
     ghost laws = { Prim.search rules };
 
     fn read(&mut self, at: u8) -> u8 {
-        if selects::<D>(self.base, at) {
-            self.device.read(offset::<D>(at))
-        } else {
-            self.below.read(at)
+        match self.offset(at) {
+            Some(offset) => self.device.read(offset),
+            None => self.below.read(at),
         }
     }
 
     fn write(&mut self, at: u8, byte: u8) {
-        if selects::<D>(self.base, at) {
-            self.device.write(offset::<D>(at), byte)
-        } else {
-            self.below.write(at, byte)
+        match self.offset(at) {
+            Some(offset) => self.device.write(offset, byte),
+            None => self.below.write(at, byte),
         }
     }
 
@@ -64,10 +63,9 @@ impl<D: Device, B: Bus> Bus for Layer<D, B> {
     }
 
     fn drive(&mut self, at: u8, byte: u8) {
-        if selects::<D>(self.base, at) {
-            self.device.drive(offset::<D>(at), byte)
-        } else {
-            self.below.drive(at, byte)
+        match self.offset(at) {
+            Some(offset) => self.device.drive(offset, byte),
+            None => self.below.drive(at, byte),
         }
     }
 
@@ -76,10 +74,9 @@ impl<D: Device, B: Bus> Bus for Layer<D, B> {
     }
 
     fn keeps(&self, at: u8) -> bool {
-        if selects::<D>(self.base, at) {
-            self.device.keeps(offset::<D>(at))
-        } else {
-            self.below.keeps(at)
+        match self.offset(at) {
+            Some(offset) => self.device.keeps(offset),
+            None => self.below.keeps(at),
         }
     }
 }
