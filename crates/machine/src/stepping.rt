@@ -27,7 +27,7 @@ impl Processor {
 // One step: the bus gets three clocks; the word at PC is executed; if IE is now 1 and the bus requests, the bus gets one
 // clock more and the processor is interrupted. Besides what it does, the laws that every step keeps to, and the word that
 // it ran in four parts.
-#[tactic(auto, using(crate::proofs::Lawful::lawful_at, crate::proofs::ByParts::by_parts))]
+#[tactic(auto, using(crate::proofs::Lawful::lawful_at))]
 pub fn step<B: Bus>(image: &[u16; 256], processor: &mut Processor, bus: &mut B) -> StepRecord
     ensures stepped { stepped_to processor.new bus.new result ≡ stepped B.meaning image.now (station processor.old bus.old) }
     ensures lawful { LawfulStep B.meaning image.now (station processor.old bus.old) processor.new result }
