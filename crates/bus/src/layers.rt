@@ -13,6 +13,7 @@ pub struct Layer<D, B> {
 }
 
 impl<D, B> Layer<D, B> {
+    // The device at a base address over the bus.
     pub fn new(base: u8, device: D, below: B) -> Layer<D, B>
         ensures { result ≡ over base device below }
     {

@@ -16,13 +16,16 @@ pub use seen::seen_by_events;
 pub trait Bus {
     ghost meaning: { Meaning Self };
 
+    // The byte at an address; a bus may change when it is read.
     fn read(&mut self, at: u8) -> u8
         ensures answer { result ≡ meaning.reads self.old at }
         ensures after { self.new ≡ meaning.after self.old (read at) };
 
+    // Writes a byte to an address.
     fn write(&mut self, at: u8, byte: u8)
         ensures { self.new ≡ meaning.after self.old (write at byte) };
 
+    // One clock.
     fn clock(&mut self)
         ensures { self.new ≡ meaning.after self.old clock };
 
@@ -30,6 +33,7 @@ pub trait Bus {
     fn drive(&mut self, at: u8, byte: u8)
         ensures { self.new ≡ meaning.after self.old (drive at byte) };
 
+    // Whether an interrupt is asked for.
     fn requests(&self) -> bool
         ensures { result ≡ meaning.requests self.now };
 
@@ -40,7 +44,7 @@ pub trait Bus {
     ghost laws: { Laws 256 meaning };
 }
 
-// A device does at the offsets 0 to 2 ^ N - 1 what a bus does at its addresses.
+// A device does at the offsets 0 to 2 ^ N - 1 what a bus does at its addresses. The ghost N is the constant, for clauses.
 pub trait Device {
     const N: u32;
 

@@ -12,6 +12,7 @@ pub struct Input {
 }
 
 impl Input {
+    // Its lines and its register 0.
     pub fn new() -> Input
         ensures { result ≡ new_input }
     {

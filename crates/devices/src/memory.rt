@@ -11,6 +11,7 @@ pub struct Memory {
 }
 
 impl Memory {
+    // The memory of the given cells.
     pub fn new(cells: [u8; 128]) -> Memory
         ensures made { result ≡ new_memory cells }
         ensures full { length result.cells ≡ 128 }

@@ -11,6 +11,7 @@ pub struct Output {
 }
 
 impl Output {
+    // Its byte 0.
     pub fn new() -> Output
         ensures { result ≡ new_output }
     {

@@ -49,14 +49,17 @@ impl Station {
         self.bus.drive(0x84, 0x01);
     }
 
+    // The byte at an address of the bus.
     pub fn read(&mut self, at: u8) -> u8 {
         self.bus.read(at)
     }
 
+    // Writes a byte to an address of the bus.
     pub fn write(&mut self, at: u8, byte: u8) {
         self.bus.write(at, byte);
     }
 
+    // One step of the processor.
     pub fn step(&mut self) -> StepRecord {
         step(&self.image, &mut self.processor, &mut self.bus)
     }
