@@ -15,13 +15,16 @@ const HANDLER_REGISTERS: [u32; 2] = [0x4000_0300, END];
 // The range 0x00 to 0x0F for main, r8 and r9 for the handler.
 const GUARDED: [u32; 3] = [0x0000_000F, 0x4000_0300, END];
 
+// STI, and ADD r0, #0x00, which does nothing that matters here.
+const STI: u16 = 0xBD00;
+
+const ADD: u16 = 0x0000;
+
 // The image of some words.
 fn image_of(words: &[u16]) -> [u16; 256] {
     let mut image = [0u16; 256];
-    for (i, word) in words.iter().enumerate() {
-        if i < 256 {
-            image[i] = *word;
-        }
+    for (place, word) in image.iter_mut().zip(words) {
+        *place = *word;
     }
     image
 }
@@ -34,19 +37,16 @@ fn depths(main: u8, handler: u8, total: u8) -> Result<Depths, Refusal> {
     })
 }
 
-// STI if it is asked for, then as many calls one within the other. The handler at 1 returns at once.
-fn nested(calls: usize, enable: bool) -> [u16; 256] {
-    let mut image = image_of(&[0xB002, 0xBB00, 0x0000, 0xB905, 0xB004]);
-    if enable {
-        image[2] = 0xBD00;
-    }
-    for k in 0..20usize {
-        if k + 1 < calls {
-            image[5 + 2 * k] = 0xB907 + 2 * (k as u16);
+// A first word, then as many calls one within the other: from address 5 on, each but the last enters the pair of words
+// behind its own, JSR and RTS. The handler at 1 returns at once.
+fn nested(first: u16, calls: u8) -> [u16; 256] {
+    let mut image = image_of(&[0xB002, 0xBB00, first, 0xB905, 0xB004]);
+    for (place, at) in image.iter_mut().zip(0..=255u8).skip(5).take(40) {
+        *place = if at % 2 == 1 && at.wrapping_sub(3) / 2 < calls {
+            0xB902 + u16::from(at)
         } else {
-            image[5 + 2 * k] = 0xBA00;
-        }
-        image[6 + 2 * k] = 0xBA00;
+            0xBA00
+        };
     }
     image
 }
@@ -354,22 +354,22 @@ fn walks_and_depths(rt: HostRuntime) {
 #[test]
 fn nested_calls(rt: HostRuntime) {
     assert_eq!(rt;
-        vet(&nested(15, true), &ALONE),
+        vet(&nested(STI, 15), &ALONE),
         depths(15, 0, 16),
         "15 calls and an interrupt"
     );
     assert_eq!(rt;
-        vet(&nested(16, true), &ALONE),
+        vet(&nested(STI, 16), &ALONE),
         Err(Refusal::Depth),
         "16 calls and an interrupt"
     );
     assert_eq!(rt;
-        vet(&nested(16, false), &ALONE),
+        vet(&nested(ADD, 16), &ALONE),
         depths(16, 0, 16),
         "16 calls alone"
     );
     assert_eq!(rt;
-        vet(&nested(17, false), &ALONE),
+        vet(&nested(ADD, 17), &ALONE),
         Err(Refusal::Depth),
         "17 calls alone"
     );

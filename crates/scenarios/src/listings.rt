@@ -14,9 +14,7 @@ fn check_listing(
     ends: &str,
     lines: usize,
 ) -> Result<(), Fail> {
-    let Ok(text) = listing(heap, image) else {
-        return Err(Fail::new("no listing"));
-    };
+    let text = listing(heap, image)?;
     assert!(rt; text.as_str().starts_with(begins));
     assert!(rt; text.as_str().ends_with(ends));
     assert_eq!(rt; text.as_str().lines().count(), lines);
@@ -25,9 +23,7 @@ fn check_listing(
 
 #[test]
 fn one_word_everywhere(rt: HostRuntime) -> Result<(), Fail> {
-    let Ok(text) = listing(rt.alloc(), &[0xB000; 256]) else {
-        return Err(Fail::new("no listing"));
-    };
+    let text = listing(rt.alloc(), &[0xB000; 256])?;
     assert_eq!(rt; text.as_str(), "00..FF B000 JMP 0x00\n");
     Ok(())
 }

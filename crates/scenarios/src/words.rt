@@ -52,9 +52,7 @@ fn words_as_text(rt: HostRuntime) -> Result<(), Fail> {
         (0xF279, "ASR r2"),
     ];
     for (word, text) in table {
-        let Some(instruction) = decode(word) else {
-            return Err(Fail::new("an undefined word"));
-        };
+        let instruction = decode(word).ok_or("an undefined word")?;
         assert_eq!(rt; instruction.to_string(rt.alloc())?.as_str(), text);
     }
     Ok(())
@@ -62,11 +60,8 @@ fn words_as_text(rt: HostRuntime) -> Result<(), Fail> {
 
 #[test]
 fn sixteen_registers(rt: HostRuntime) -> Result<(), Fail> {
-    let Ok(last) = RegisterName::try_from(15) else {
-        return Err(Fail::new("a refused register"));
-    };
-    assert_eq!(rt; last.number(), 15);
-    assert!(rt; matches!(RegisterName::try_from(16), Err(Refusal::Register)));
+    assert_eq!(rt; RegisterName::try_from(15)?.number(), 15);
+    assert_eq!(rt; RegisterName::try_from(16), Err(Refusal::Register));
     Ok(())
 }
 

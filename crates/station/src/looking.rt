@@ -34,7 +34,7 @@ pub(crate) fn look<B: Bus>(
 {
     match place {
         Place::Register(number) => {
-            Ok(Peeked::Byte(processor.register(RegisterName::new(number)?)))
+            Ok(Peeked::Byte(processor.register(RegisterName::try_from(number)?)))
         }
         Place::Cell(at) => {
             if bus.keeps(at) {
