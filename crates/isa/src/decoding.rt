@@ -1,6 +1,6 @@
 // From a word to its instruction.
-ghost use Rattle.std.specs.Prelude.{◌≡◌, ◌⊎◌, ◌<◌, ◌≤◌, true, Some};
-ghost use Rattle.isa.specs.Words.{shift_code, takes_operand, operand_form, jump_form, word_form, decoded};
+ghost use Rattle.std.specs.Prelude.{◌≡◌, ◌≢◌, ◌<◌, ◌≤◌, true, Some};
+ghost use Rattle.isa.specs.Words.{alu_code, shift_code, jump_code, takes_operand, operand_form, jump_form, word_form, decoded};
 ghost use Rattle.isa.specs.Laws.{Corresponds};
 
 use crate::instruction::{AluOperation, Condition, Instruction, Operand, ShiftOperation};
@@ -10,9 +10,24 @@ use crate::register::RegisterName;
 fn takes_operand(code: u8) -> bool
     ensures { result ≡ takes_operand code }
 {
+    matches!(code, 0x0..=0x6 | 0x8..=0xA | 0xC..=0xD)
+}
+
+// The operation on two operands of a code.
+fn alu_operation(code: u8) -> AluOperation
+    requires { (code < 11) × ((code ≢ 7) × (code ≢ 9)) }
+    ensures { alu_code result ≡ code }
+{
     match code {
-        0x0..=0x6 | 0x8..=0xA | 0xC..=0xD => true,
-        _ => false,
+        0x0 => AluOperation::Add,
+        0x1 => AluOperation::Adc,
+        0x2 => AluOperation::Sub,
+        0x3 => AluOperation::Sbc,
+        0x4 => AluOperation::And,
+        0x5 => AluOperation::Or,
+        0x6 => AluOperation::Xor,
+        0x8 => AluOperation::Tst,
+        _ => AluOperation::Cmp,
     }
 }
 
@@ -22,19 +37,28 @@ fn two_operand(code: u8, x: RegisterName, operand: Operand) -> Instruction
     ensures { operand_form code x operand ≡ Some result }
 {
     match code {
-        0x0 => Instruction::Alu(AluOperation::Add, x, operand),
-        0x1 => Instruction::Alu(AluOperation::Adc, x, operand),
-        0x2 => Instruction::Alu(AluOperation::Sub, x, operand),
-        0x3 => Instruction::Alu(AluOperation::Sbc, x, operand),
-        0x4 => Instruction::Alu(AluOperation::And, x, operand),
-        0x5 => Instruction::Alu(AluOperation::Or, x, operand),
-        0x6 => Instruction::Alu(AluOperation::Xor, x, operand),
-        0x8 => Instruction::Alu(AluOperation::Tst, x, operand),
         0x9 => Instruction::Store(x, operand),
-        0xA => Instruction::Alu(AluOperation::Cmp, x, operand),
         0xC => Instruction::Move(x, operand),
         0xD => Instruction::Load(x, operand),
-        _ => unreachable!(),
+        _ => Instruction::Alu(alu_operation(code), x, operand),
+    }
+}
+
+// The condition of a jump's code.
+fn condition(code: u8) -> Condition
+    requires { code < 9 }
+    ensures { jump_code result ≡ code }
+{
+    match code {
+        0x0 => Condition::Always,
+        0x1 => Condition::Zero,
+        0x2 => Condition::NotZero,
+        0x3 => Condition::Carry,
+        0x4 => Condition::NoCarry,
+        0x5 => Condition::Negative,
+        0x6 => Condition::NotNegative,
+        0x7 => Condition::Overflow,
+        _ => Condition::NoOverflow,
     }
 }
 
@@ -44,22 +68,14 @@ fn jump(code: u8, operand: Operand) -> Instruction
     ensures { jump_form code operand ≡ Some result }
 {
     match code {
-        0x0 => Instruction::Jump(Condition::Always, operand),
-        0x1 => Instruction::Jump(Condition::Zero, operand),
-        0x2 => Instruction::Jump(Condition::NotZero, operand),
-        0x3 => Instruction::Jump(Condition::Carry, operand),
-        0x4 => Instruction::Jump(Condition::NoCarry, operand),
-        0x5 => Instruction::Jump(Condition::Negative, operand),
-        0x6 => Instruction::Jump(Condition::NotNegative, operand),
-        0x7 => Instruction::Jump(Condition::Overflow, operand),
-        0x8 => Instruction::Jump(Condition::NoOverflow, operand),
-        _ => Instruction::Call(operand),
+        0x9 => Instruction::Call(operand),
+        _ => Instruction::Jump(condition(code), operand),
     }
 }
 
 // The shift or rotate of a code.
-fn shift(code: u8) -> ShiftOperation
-    requires { (code < 8) ⊎ (code ≡ 9) }
+fn shift_operation(code: u8) -> ShiftOperation
+    requires { (code < 10) × (code ≢ 8) }
     ensures { shift_code result ≡ code }
 {
     match code {
@@ -91,7 +107,7 @@ fn by_digits(first: u8, x: u8, third: u8, y: u8) -> Option<Instruction>
         (0xB, 0xD, 0x0, 0x0) => Some(Instruction::EnableInterrupts),
         (0x7, _, 0x0, 0x0) => Some(Instruction::Swap(register)),
         (0xF, 0x0..=0x9, 0xB, _) => Some(jump(x, Operand::Register(second))),
-        (0xF, _, 0x7, 0x0..=0x7 | 0x9) => Some(Instruction::Shift(shift(y), register)),
+        (0xF, _, 0x7, 0x0..=0x7 | 0x9) => Some(Instruction::Shift(shift_operation(y), register)),
         (0xF, _, code, _) if takes_operand(code) => Some(two_operand(
             code,
             register,
