@@ -4,6 +4,7 @@ use Rattle.isa.specs.declared.instruction.Instruction.{Instruction}
 use Rattle.isa.specs.Images.{instruction_in}
 use Rattle.walk.specs.declared.addresses.AddressSet.{AddressSet}
 use Rattle.walk.specs.Sets.{Has}
+use Rattle.walk.specs.Walk.{Graph}
 use Rattle.walk.specs.Result.{Walked}
 use Rattle.vetting.specs.declared.part.Part.{Part}
 use Rattle.vetting.specs.declared.rules.Rule.{Rule}
@@ -11,10 +12,14 @@ use Rattle.vetting.specs.declared.rules.Breach.{Breach}
 use Rattle.vetting.specs.Programs.{flow_of, enables}
 use Rattle.vetting.specs.Verdicts.{rule_number, stack_size}
 
+-- how the word at each address of an image leads on
+abbrev pub leads_of : List ℕ → Graph
+leads_of image a = flow_of (instruction_in image a)
+
 -- the part is what the walk through the image from the start reaches
 pub record PartOf (image : List ℕ) (start : ℕ) (part : Part) : Type 0 where
   pub same : part.image.now ≡ image
-  pub walked : Walked (λ a. flow_of (instruction_in image a)) start stack_size part.reach
+  pub walked : Walked (leads_of image) start stack_size part.reach
 
 -- a test of a word that is reached with an empty or a filled list; an undefined word holds no instruction
 abbrev pub WordTest : Type 0

@@ -1,10 +1,10 @@
 // The parts of a program, main and the handler, each reached from its own start.
 ghost use Rattle.std.specs.Prelude.{◌≡◌, ℕ, slice_index_or};
 ghost use Rattle.isa.specs.Images.{instruction_in};
-ghost use Rattle.walk.specs.declared.flow.Flow.TheVariants.{Nowhere};
+ghost use Rattle.walk.specs.Walk.{graph};
 ghost use Rattle.vetting.specs.Programs.{flow_of};
 ghost use Rattle.vetting.specs.Verdicts.{reset, vector};
-ghost use Rattle.vetting.specs.Parts.{PartOf, FoundBy, Found, enabling, Tells, Judged};
+ghost use Rattle.vetting.specs.Parts.{leads_of, PartOf, FoundBy, Found, enabling, Tells, Judged};
 
 use crate::depths::STACK_SIZE;
 use crate::rulebooks::Rulebook;
@@ -21,7 +21,7 @@ const VECTOR: u8 = 1;
 
 // How each word of an image leads on.
 fn flows_of(image: &[u16; 256]) -> [Flow; 256]
-    ensures { (a : ℕ) → slice_index_or result a Nowhere ≡ flow_of (instruction_in image.now a) }
+    ensures { graph result ≡ leads_of image.now }
 {
     image.map(|word| flow_of(decode(word)))
 }
