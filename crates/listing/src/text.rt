@@ -28,10 +28,10 @@ fn run_start(image: &[u16; 256]) -> usize
     ensures { LastRun image.now result }
 {
     let last = image[255];
-    match image.iter().rposition(|word| *word != last) {
-        Some(at) => at + 1,
-        None => 0,
-    }
+    image
+        .iter()
+        .rposition(|word| *word != last)
+        .map_or(0, |at| at + 1)
 }
 
 // Adds a line for each of the words, which stand from address 0 on.
