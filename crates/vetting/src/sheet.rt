@@ -53,10 +53,8 @@ impl Sheet {
         ensures ranges { self.new.ranges ≡ self.old.ranges }
         ensures handlers { (r : ℕ) → handled self.new r ≡ (handled self.old r || is_set bits r) }
     {
-        for register in 0..16 {
-            if (bits >> register) % 2 == 1 {
-                self.handlers[register] = true;
-            }
+        for (register, handled) in self.handlers.iter_mut().enumerate() {
+            *handled |= (bits >> register) % 2 == 1;
         }
     }
 
