@@ -9,10 +9,14 @@ abbrev pub digit_count : Digits → ℕ
 digit_count Four = 4
 digit_count Eight = 8
 
+-- the number with one digit more; none where the byte is no digit
+abbrev pub with_digit : ℕ → ℕ → Option ℕ
+with_digit n c = elim (value_of c) [ Some d ↦ Some (n * 16 + d) | None ↦ None ]
+
 -- the number that digits after the number n write, high digit first; none where a byte is no digit
 abbrev pub number_on : ℕ → List ℕ → Option ℕ
 number_on n [] = Some n
-number_on n (c ∷ cs) = elim (value_of c) [ Some d ↦ number_on (n * 16 + d) cs | None ↦ None ]
+number_on n (c ∷ cs) = elim (with_digit n c) [ Some m ↦ number_on m cs | None ↦ None ]
 
 -- the number of a word of so many digits; none where the bytes are no such word
 abbrev pub word_of : Digits → List ℕ → Option ℕ

@@ -2,7 +2,7 @@
 ghost use Rattle.std.specs.Prelude.{◌≡◌, ℕ, ◌^◌, ◌<◌, List, IfSome, Option};
 ghost use Rattle.files.specs.declared.fault.Digits.{Digits as Count};
 ghost use Rattle.files.specs.declared.fault.Digits.TheVariants.{Four, Eight};
-ghost use Rattle.files.specs.Words.{digit_count, word_of};
+ghost use Rattle.files.specs.Words.{digit_count, with_digit, word_of};
 
 use crate::fault::Digits;
 
@@ -15,6 +15,14 @@ impl Digits {
     }
 }
 
+// The number with one digit more; none where the byte is no digit.
+fn with_digit(number: u32, byte: u8) -> Option<u32>
+    requires { number < 2 ^ 28 }
+    ensures { result ≡ with_digit number byte }
+{
+    Some(number * 16 + u32::from(hexadecimal::value(byte)?))
+}
+
 // The number that a word of so many digits writes; none where the token is no such word.
 fn number(digits: Digits, token: &[u8]) -> Option<u32>
     ensures value { result ≡ word_of digits token.now }
@@ -23,12 +31,12 @@ fn number(digits: Digits, token: &[u8]) -> Option<u32>
     if token.len() != digits.count() {
         return None;
     }
-    let mut number: u32 = 0;
-    for byte in token {
-        let digit = hexadecimal::value(*byte)?;
-        number = number * 16 + u32::from(digit);
-    }
-    Some(number)
+    token.iter().try_fold(
+        0,
+        |number, byte|
+            requires { number < 2 ^ 28 }
+        { with_digit(number, *byte) },
+    )
 }
 
 // A type of word that a text writes in hexadecimal digits.
