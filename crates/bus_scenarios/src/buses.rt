@@ -2,6 +2,7 @@
 use bus::{Bus, Empty, Layer};
 use devices::{Buttons, Input, Memory, Output, desk};
 
+// What is done to a bus.
 #[derive(Drop)]
 enum Event {
     Write(u8, u8),
@@ -9,6 +10,7 @@ enum Event {
     Drive(u8, u8),
 }
 
+// Does an event to a bus.
 fn apply<B: Bus>(bus: &mut B, event: Event) {
     match event {
         Event::Write(at, byte) => bus.write(at, byte),
@@ -109,6 +111,7 @@ fn buttons_request_until_their_flags_are_cleared(rt: HostRuntime) {
     }
 }
 
+// The bytes at an address, a multiple of four, and at the three after it.
 fn four_bytes<B: Bus>(bus: &mut B, from: u8) -> [u8; 4] {
     [
         bus.read(from),

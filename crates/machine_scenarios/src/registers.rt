@@ -14,6 +14,7 @@ struct Case {
     after: &'static str,
 }
 
+// A case of its parts.
 const fn of(
     word: u16,
     r1: u8,

@@ -21,6 +21,7 @@ pub fn flags_of(letters: &str) -> Flags {
     flags
 }
 
+// An image, and the processor that runs it on the desk's bus.
 #[derive(Drop)]
 pub struct Station {
     image: [u16; 256],
