@@ -1,8 +1,9 @@
-// Why the program gives no answer.
+// What keeps the program from an answer.
 use cli::Usage;
 use files::Fault;
 use std::{fmt, io};
 
+// Arguments of no command, a file that cannot be read, a file that holds no words, or an output that cannot be written.
 #[derive(Drop)]
 pub enum Failure<'a> {
     Usage(Usage),
@@ -17,13 +18,14 @@ impl From<Usage> for Failure<'_> {
     }
 }
 
+// What `?` converts is the failure of a print: that of a read comes with the file's name.
 impl From<io::Error> for Failure<'_> {
     fn from(error: io::Error) -> Self {
         Failure::Unprinted(error)
     }
 }
 
-// A file's fault stands behind its name, and its line, where it has one, right behind the name.
+// A fault that has a line has it right behind the file's name.
 impl fmt::Display for Failure<'_> {
     fn fmt<W: fmt::Write>(&self, f: &mut fmt::Formatter<W>) -> fmt::Result {
         match self {
