@@ -57,20 +57,17 @@ pub record Written (value : List ℕ → Option ℕ) (digits : ℕ → List ℕ)
 
 some_same : (xs ys : List ℕ) → map {B = Option ℕ} Some xs ≡ map Some ys → xs ≡ ys
 some_same [] [] e = refl
-some_same [] (y ∷ ys) e = absurd (let z : ◌≡◌ {A = ℕ} 0 1 = cc in omega arith)
-some_same (x ∷ xs) [] e = absurd (let z : ◌≡◌ {A = ℕ} 0 1 = cc in omega arith)
+some_same [] (y ∷ ys) e = cc
+some_same (x ∷ xs) [] e = cc
 some_same (x ∷ xs) (y ∷ ys) e =
-    let head : x ≡ y = cc in
     let tail : map {B = Option ℕ} Some xs ≡ map Some ys = cc in
     let same = some_same xs ys tail in cc
 
 no_none : (before after : List (Option ℕ)) (ws : List ℕ) → before ++ None ∷ after ≡ map Some ws → ⊥
-no_none [] after [] e = let z : ◌≡◌ {A = ℕ} 0 1 = cc in omega arith
-no_none [] after (w ∷ ws) e = let z : ◌≡◌ {A = ℕ} 0 1 = cc in omega arith
-no_none (x ∷ before) after [] e = let z : ◌≡◌ {A = ℕ} 0 1 = cc in omega arith
-no_none (x ∷ before) after (w ∷ ws) e =
-    let tail : before ++ None ∷ after ≡ map Some ws = cc in
-    no_none before after ws tail
+no_none [] after [] e = cc
+no_none [] after (w ∷ ws) e = cc
+no_none (x ∷ before) after [] e = cc
+no_none (x ∷ before) after (w ∷ ws) e = let tail : before ++ None ∷ after ≡ map Some ws = cc in no_none before after ws tail
 
 module _ {value : List ℕ → Option ℕ} {digits : ℕ → List ℕ} {limit : ℕ} (way : Written value digits limit) where
   -- the words of a text that has each on a line of its own
