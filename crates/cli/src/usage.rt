@@ -1,6 +1,6 @@
 // What was expected of the arguments, and the help.
 ghost use Rattle.std.specs.Prelude.{Some};
-ghost use Rattle.cli.specs.Arguments.{form_of, expected_text, usage_text};
+ghost use Rattle.cli.specs.Arguments.{expected_text, usage_text};
 
 use crate::command::CommandName;
 use std::fmt;
@@ -24,19 +24,6 @@ pub enum Usage {
     Files(CommandName),
 }
 
-// A command, shown with its files.
-impl fmt::Display for CommandName {
-    ghost output = { λ c. Some (form_of c) };
-
-    fn fmt<W: fmt::Write>(&self, f: &mut fmt::Formatter<W>) -> fmt::Result {
-        match self {
-            CommandName::List => write!(f, "list IMAGE"),
-            CommandName::Vet => write!(f, "vet IMAGE SHEET"),
-            CommandName::Help => write!(f, "help alone"),
-        }
-    }
-}
-
 // What the arguments should have been.
 #[derive(Clone, Copy)]
 struct Expected(Usage);
@@ -45,10 +32,12 @@ impl fmt::Display for Expected {
     ghost output = { λ e. Some (expected_text e.0) };
 
     fn fmt<W: fmt::Write>(&self, f: &mut fmt::Formatter<W>) -> fmt::Result {
-        match self.0 {
-            Usage::Unknown => write!(f, "list, vet or help"),
-            Usage::Files(command) => write!(f, "{command}"),
-        }
+        f.write_str(match self.0 {
+            Usage::Unknown => "list, vet or help",
+            Usage::Files(CommandName::List) => "list IMAGE",
+            Usage::Files(CommandName::Vet) => "vet IMAGE SHEET",
+            Usage::Files(CommandName::Help) => "help alone",
+        })
     }
 }
 

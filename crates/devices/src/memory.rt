@@ -32,11 +32,11 @@ impl Device for Memory {
     ghost laws = { Prim.search rules };
 
     fn read(&mut self, at: u8) -> u8 {
-        self.cells[at as usize]
+        self.cells[usize::from(at)]
     }
 
     fn write(&mut self, at: u8, byte: u8) {
-        self.cells[at as usize] = byte;
+        self.cells[usize::from(at)] = byte;
     }
 
     fn clock(&mut self) {}
@@ -48,6 +48,6 @@ impl Device for Memory {
     }
 
     fn keeps(&self, at: u8) -> bool {
-        self.cells.get(at as usize).is_some()
+        self.cells.get(usize::from(at)).is_some()
     }
 }

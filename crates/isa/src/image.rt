@@ -9,5 +9,5 @@ use crate::instruction::Instruction;
 pub fn instruction_at(image: &[u16; 256], at: u8) -> Option<Instruction>
     ensures { result ≡ instruction_in image.now at }
 {
-    decode(image[at as usize])
+    decode(image[usize::from(at)])
 }

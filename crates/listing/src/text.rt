@@ -9,7 +9,7 @@ use refusal::Refusal;
 use std::alloc::{AllocError, Global};
 
 // Why there is no listing: the image is refused, or memory is wanting.
-#[derive(Clone, Copy, PartialEq, Eq, Debug)]
+#[derive(Clone, Copy, Debug)]
 pub enum ListingError {
     Refused(Refusal),
     Memory,

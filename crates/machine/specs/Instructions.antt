@@ -35,6 +35,11 @@ abbrev pub with_outcome : Bool → RegisterName → Outcome → Processor → Pr
 with_outcome true x o p = with_register x o.value (with_flags o.flags p)
 with_outcome false x o p = with_flags o.flags p
 
+-- an outcome goes to the flags, and to a register where one is named
+abbrev pub kept : Option RegisterName → Outcome → Processor → Processor
+kept (Some x) o p = with_register x o.value (with_flags o.flags p)
+kept None o p = with_flags o.flags p
+
 -- an operation on a register and a second operand
 abbrev pub operated : AluOperation → RegisterName → Operand → Processor → Processor
 operated op x o p = went_on (with_outcome (keeps_result op) x (computed op (register_of x p) (value_of o p) p.flags) p)

@@ -1,7 +1,7 @@
 // What each instruction does.
 ghost use Rattle.std.specs.Prelude.{◌≡◌, Some};
 ghost use Rattle.machine.specs.Processors.{register_of, value_of, with_register, went_on};
-ghost use Rattle.machine.specs.Instructions.{byte, called, enabled, executed, holds, jumped, loaded, ran, ran_to, received, returned, returned_from_interrupt, stored, with_outcome};
+ghost use Rattle.machine.specs.Instructions.{byte, called, enabled, executed, holds, jumped, loaded, ran, ran_to, received, returned, returned_from_interrupt, stored, kept};
 
 use crate::access::Access;
 use crate::processor::Processor;
@@ -32,14 +32,14 @@ impl Processor {
         ensures value { result ≡ register_of x self.now }
         ensures on_bus { result ≡ byte (register_of x self.now) }
     {
-        self.registers[x.number() as usize]
+        self.registers[usize::from(x.number())]
     }
 
     // A register is set to a value.
     pub fn set_register(&mut self, x: RegisterName, value: u8)
         ensures { self.new ≡ with_register x value self.old }
     {
-        self.registers[x.number() as usize] = value;
+        self.registers[usize::from(x.number())] = value;
     }
 
     // The value of a second operand, which is a byte.
@@ -61,11 +61,11 @@ impl Processor {
     }
 
     // An outcome goes to the flags and to a register, or to the flags alone; the program counter goes on.
-    fn keep(&mut self, written: bool, x: RegisterName, outcome: Outcome)
-        ensures { self.new ≡ went_on (with_outcome written x outcome self.old) }
+    fn keep(&mut self, target: Option<RegisterName>, outcome: Outcome)
+        ensures { self.new ≡ went_on (kept target outcome self.old) }
     {
         self.flags = outcome.flags;
-        if written {
+        if let Some(x) = target {
             self.set_register(x, outcome.value);
         }
         self.go_on();
@@ -151,8 +151,7 @@ impl Processor {
                 return Some(self.store(self.register(x), self.value(operand), bus));
             }
             Instruction::Alu(operation, x, operand) => self.keep(
-                operation.keeps_result(),
-                x,
+                operation.keeps_result().then_some(x),
                 compute(operation, self.register(x), self.value(operand), self.flags),
             ),
             Instruction::Move(x, operand) => self.receive(x, self.value(operand)),
@@ -164,10 +163,9 @@ impl Processor {
             Instruction::ReturnFromInterrupt => self.return_from_interrupt(),
             Instruction::DisableInterrupts => self.enable_interrupts(false),
             Instruction::EnableInterrupts => self.enable_interrupts(true),
-            Instruction::Swap(x) => self.keep(true, x, swap(self.register(x), self.flags)),
+            Instruction::Swap(x) => self.keep(Some(x), swap(self.register(x), self.flags)),
             Instruction::Shift(operation, x) => self.keep(
-                true,
-                x,
+                Some(x),
                 shift(operation, self.register(x), self.flags),
             ),
         }

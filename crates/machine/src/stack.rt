@@ -9,14 +9,14 @@ impl Processor {
     pub fn top(&self) -> Saved
         ensures { result ≡ top self.now }
     {
-        self.stack[self.sp.down().place() as usize]
+        self.stack[usize::from(self.sp.down().place())]
     }
 
     // Pushes an address with the six flags.
     pub(crate) fn push(&mut self, pc: u8)
         ensures { self.new ≡ pushed pc self.old }
     {
-        self.stack[self.sp.place() as usize] = Saved {
+        self.stack[usize::from(self.sp.place())] = Saved {
             pc,
             flags: self.flags,
         };

@@ -12,9 +12,9 @@ impl fmt::Display for Refusal {
         let number = self.number();
         let name = self.name();
         write!(f, "refused {number} {name}")?;
-        match self.origin() {
-            Some(place) => write!(f, " at {place}"),
-            None => Ok(()),
+        if let Some(place) = self.origin() {
+            write!(f, " at {place}")?;
         }
+        Ok(())
     }
 }

@@ -35,10 +35,10 @@ impl fmt::Display for Report<'_> {
             ),
             Err(refusal) => {
                 writeln!(f, "{refusal}")?;
-                match pointed_line(self.image, refusal) {
-                    Some(line) => writeln!(f, "{line}"),
-                    None => Ok(()),
+                if let Some(line) = pointed_line(self.image, refusal) {
+                    writeln!(f, "{line}")?;
                 }
+                Ok(())
             }
         }
     }

@@ -17,13 +17,9 @@ fn main(rt: HostRuntime) -> Result<(), io::Error> {
     image[..LOOP.len()].copy_from_slice(&LOOP);
     let mut processor = Processor::new();
     let mut bus = desk([0; 128]);
-    let mut accesses: u32 = 0;
-    for _ in 0..STEPS {
-        let record = step(&image, &mut processor, &mut bus);
-        if record.access.is_some() {
-            accesses = accesses.wrapping_add(1);
-        }
-    }
+    let accesses = (0..STEPS)
+        .filter(|_| step(&image, &mut processor, &mut bus).access.is_some())
+        .count();
     println!(rt;
         "{STEPS} steps, {accesses} accesses, r0 {}",
         processor.registers[0]

@@ -32,7 +32,10 @@ pub(crate) fn change<B: Bus>(
     ensures bus { bus.new ≡ poke_bus B.meaning poke bus.old }
 {
     match poke {
-        Poke::Register { number, byte } => processor.set_register(RegisterName::try_from(number)?, byte),
+        Poke::Register { number, byte } => processor.set_register(
+            RegisterName::try_from(number)?,
+            byte,
+        ),
         Poke::Cell { at, byte } => {
             if !bus.keeps(at) {
                 return Err(Refusal::Port);

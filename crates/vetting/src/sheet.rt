@@ -22,10 +22,10 @@ fn ends(words: &[u32]) -> bool
     ensures yes { result ≡ true → Ended words.now }
     ensures not { result ≡ false → Ended words.now → ⊥ }
 {
-    let Some((last, others)) = words.split_last() else {
-        return false;
-    };
-    words.len() <= MOST_WORDS && is_end(*last) && !others.iter().any(|word| is_end(*word))
+    words.len() <= MOST_WORDS
+        && words.split_last().is_some_and(|(last, others)| {
+            is_end(*last) && !others.iter().any(|word| is_end(*word))
+        })
 }
 
 impl Sheet {
@@ -44,7 +44,7 @@ impl Sheet {
         ensures ranges { (a : ℕ) → guarded self.new a ≡ (guarded self.old a || is_in range a) }
         ensures handlers { self.new.handlers ≡ self.old.handlers }
     {
-        self.ranges[range.first as usize..=range.last as usize].fill(true);
+        self.ranges[usize::from(range.first)..=usize::from(range.last)].fill(true);
     }
 
     // Adds the registers whose bits are set.
@@ -88,13 +88,13 @@ impl Sheet {
     pub fn guards(&self, at: u8) -> bool
         ensures { result ≡ guarded self.now at }
     {
-        self.ranges[at as usize]
+        self.ranges[usize::from(at)]
     }
 
     // Whether a register is the handler's.
     pub fn handles(&self, register: RegisterName) -> bool
         ensures { result ≡ handled self.now register.number }
     {
-        self.handlers[register.number() as usize]
+        self.handlers[usize::from(register.number())]
     }
 }

@@ -57,11 +57,10 @@ impl TryFrom<u32> for SheetWord {
     ghost try_from_gives = { WordRead };
 
     fn try_from(word: u32) -> Result<SheetWord, WordError> {
-        let bits = (word % 0x1_0000) as u16;
-        match word / 0x1_0000 {
+        let [kind, unused, first, last] = word.to_be_bytes();
+        let bits = u16::from_be_bytes([first, last]);
+        match u16::from_be_bytes([kind, unused]) {
             0x0000 => {
-                let first = (bits / 0x100) as u8;
-                let last = (bits % 0x100) as u8;
                 if first > last {
                     return Err(WordError::Range);
                 }
