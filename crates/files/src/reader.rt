@@ -1,11 +1,11 @@
 // The words of a text.
-ghost use Rattle.files.specs.Texts.{tokens};
-ghost use Rattle.files.specs.Reading.{IsRead, Reads};
+ghost use Rattle.files.specs.Texts.{line_tokens, tokens};
+ghost use Rattle.files.specs.Reading.{Adds, IsRead, Reads};
 ghost use Rattle.files.specs.Views.{token_of};
 
 use crate::fault::Fault;
 use crate::shown::Shown;
-use crate::tokens::{Token, tokens};
+use crate::tokens::{Token, ends_line, is_blank, is_filled, without_comment};
 use crate::word::Word;
 use std::alloc::Global;
 
@@ -25,14 +25,32 @@ impl Token<'_> {
     }
 }
 
+// Adds the words of the line with this number. The tests are function pointers, since a loop over
+// an iterator that holds a closure can have no invariant in a generic function.
+fn add_line<W: Word>(
+    heap: Global,
+    words: &mut Vec<W>,
+    line: usize,
+    text: &[u8],
+) -> Result<(), Fault>
+    ensures { Adds W.Word.value W.Word.DIGITS (line_tokens line text.now) words.old.items result words.new.items }
+{
+    let blank: fn(&u8) -> bool = is_blank;
+    let filled: fn(&&[u8]) -> bool = is_filled;
+    for bytes in without_comment(text).split(blank).filter(filled) {
+        words.push(Token { line, bytes }.word(heap)?)?;
+    }
+    Ok(())
+}
+
 // The words of all tokens of a text.
 pub fn read<W: Word>(heap: Global, text: &[u8]) -> Result<Vec<W>, Fault>
     ensures { Reads W.Word.value W.Word.DIGITS (tokens text.now) result }
 {
-    let tokens = tokens(heap, text)?;
     let mut words = Vec::new(heap);
-    for token in &tokens {
-        words.push(token.word(heap)?)?;
+    let ends: fn(&u8) -> bool = ends_line;
+    for (index, line) in text.split(ends).enumerate() {
+        add_line(heap, &mut words, index + 1, line)?;
     }
     Ok(words)
 }

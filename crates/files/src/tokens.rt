@@ -1,9 +1,6 @@
-// A text cut into its tokens.
-ghost use Rattle.std.specs.Prelude.{◌≡◌, ◌++◌, map, OnOk, IfOk};
-ghost use Rattle.files.specs.Texts.{is_blank, uncommented, line_tokens, tokens};
-ghost use Rattle.files.specs.Views.{token_of};
-
-use std::alloc::{AllocError, Global};
+// What parts a text into its tokens.
+ghost use Rattle.std.specs.Prelude.{◌≡◌};
+ghost use Rattle.files.specs.Texts.{ends_line, is_blank, is_filled, uncommented};
 
 // A row of bytes that is to be a word, and the number of its line.
 #[derive(Clone, Copy)]
@@ -12,15 +9,29 @@ pub struct Token<'a> {
     pub bytes: &'a [u8],
 }
 
+// Whether a line ends with this byte.
+pub fn ends_line(byte: &u8) -> bool
+    ensures { result ≡ ends_line byte.now }
+{
+    *byte == b'\n'
+}
+
 // Whether a byte parts the tokens of a line.
-fn is_blank(byte: u8) -> bool
-    ensures { result ≡ is_blank byte }
+pub fn is_blank(byte: &u8) -> bool
+    ensures { result ≡ is_blank byte.now }
 {
     matches!(byte, b' ' | b'\t' | b'\r')
 }
 
+// Whether a piece of a line has a byte, and so is a token.
+pub fn is_filled(piece: &&[u8]) -> bool
+    ensures { result ≡ is_filled piece.now.now }
+{
+    !piece.is_empty()
+}
+
 // A line without its comment.
-fn without_comment(line: &[u8]) -> &[u8]
+pub fn without_comment(line: &[u8]) -> &[u8]
     ensures { result.now ≡ uncommented line.now }
 {
     let end = line
@@ -28,26 +39,4 @@ fn without_comment(line: &[u8]) -> &[u8]
         .position(|pair| matches!(pair, b"//"))
         .unwrap_or(line.len());
     &line[..end]
-}
-
-// Adds the tokens of the line with this number.
-fn add_line<'a>(tokens: &mut Vec<Token<'a>>, line: usize, text: &'a [u8]) -> Result<(), AllocError>
-    ensures { OnOk result (map token_of tokens.new.items ≡ map token_of tokens.old.items ++ line_tokens line text.now) }
-{
-    let pieces = without_comment(text).split(|byte| is_blank(*byte));
-    for bytes in pieces.filter(|piece| !piece.is_empty()) {
-        tokens.push(Token { line, bytes })?;
-    }
-    Ok(())
-}
-
-// The tokens of a text.
-pub fn tokens<'a>(heap: Global, text: &'a [u8]) -> Result<Vec<Token<'a>>, AllocError>
-    ensures { IfOk result (λ v. map token_of v.items ≡ tokens text.now) }
-{
-    let mut tokens = Vec::new(heap);
-    for (index, line) in text.split(|byte| *byte == b'\n').enumerate() {
-        add_line(&mut tokens, index + 1, line)?;
-    }
-    Ok(tokens)
 }

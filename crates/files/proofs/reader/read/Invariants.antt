@@ -1,8 +1,12 @@
-use Rattle.std.proofs.Common.{map, take, vec_items}
-use Rattle.files.specs.Reading.{AreWords}
-use Rattle.files.specs.Views.{token_of}
+use Rattle.std.proofs.Common.{◌≡◌, map, Some, vec_items}
+use Rattle.std.specs.List.{enumerate_from, slice_split}
+use Rattle.std.proofs.lemmas.Iterator.{YieldsList}
+use Rattle.files.specs.Texts.{Token, ends_line, tokens_of}
+use Rattle.files.specs.Views.{numbered}
 use Rattle.files.proofs.reader.read.Given as goal
 
--- the tokens so far are these words
-abbrev pub invariant-loop-token : goal.invariant-loop-token
-invariant-loop-token g l = AreWords g.W.Word.value (map token_of (take l.token-index l.token-items)) (vec_items l.words)
+-- the words of the lines so far
+abbrev pub invariant-loop-index : goal.invariant-loop-index
+invariant-loop-index g l =
+    YieldsList (goal.iterator-loop-index g).next_gives numbered l.initial.index-iterator (enumerate_from 0 (slice_split ends_line l.text)) ×
+    (map Some (vec_items l.words) ≡ map (λ (t : Token). g.W.Word.value t.bytes) (tokens_of (map numbered l.yielded)))
