@@ -11,14 +11,15 @@ use Rattle.files.specs.declared.fault.Digits.{Digits}
 use Rattle.files.specs.declared.fault.Fault.{Fault}
 use Rattle.files.specs.declared.fault.Fault.TheVariants.{Malformed, HalfWord, Memory}
 
--- an item that a loop has in hand stands behind those that it had
-pub in_hand : {S A B : Type 0} {steps : S → Option A → S → Type 0} {v : A → B} {s : S} {all : List B} (road : YieldsList steps v s all) (xs : List A) (t : S) (y : Yields steps s xs t) (r : Option A) (u : S) (x : A) → r ≡ Some x → steps t r u → all ≡ map v xs ++ v x ∷ drop (length xs + 1) all
-in_hand {v = v} {all = all} road xs t y r u x is step =
-    let turn = YieldsList-turn road xs t y r u x is step in
+-- the item that a loop has in hand stands behind those that it had
+pub in_hand : {S A B : Type 0} {steps : S → Option A → S → Type 0} {v : A → B} {s : S} {all : List B} (road : YieldsList steps v s all) (xs : List A) (t u : S) (x : A) → Yields steps s xs t → steps t (Some x) u → all ≡ map v xs ++ v x ∷ drop (length xs + 1) all
+in_hand {v = v} {all = all} road xs t u x had next =
+    let turn = YieldsList-turn road xs t had (Some x) u x refl next in
     sym (take-append-drop (length xs) all) ∙
     ap (λ l. take (length xs) all ++ l) (drop_more all (length xs) (v x) turn.0) ∙
-    (λ i. sym (YieldsList-so_far road xs t y) i ++ sym turn.1 i ∷ drop (length xs + 1) all)
+    (λ i. sym (YieldsList-so_far road xs t had) i ++ sym turn.1 i ∷ drop (length xs + 1) all)
 
+-- what stands behind the words that were there is words too
 added_words : {W : Type 0} (was now : List W) (os : List (Option W)) → map {B = Option W} Some now ≡ map Some was ++ os → os ≡ map Some (drop (length was) now)
 added_words [] now os e = sym e
 added_words (w ∷ was) [] os e = cc

@@ -33,12 +33,12 @@ module _ {W : Type 0} (value : List ℕ → Option W) where
   IsRead digits t (Err (HalfWord n)) = ⊥
   IsRead digits t (Err Memory) = Unit {0}
 
-  -- the words of all tokens are added at the end, or a fault
-  abbrev pub Adds : {T : Type 0} → Digits → List Token → List W → Result T Fault → List W → Type 0
-  Adds digits ts was (Ok x) now = map Some now ≡ map Some was ++ map (λ t. value t.bytes) ts
-  Adds digits ts was (Err f) now = Faults digits ts f
-
   -- the words of all tokens, or a fault
   abbrev pub Reads : {Z : Type 0} → Digits → List Token → Result (Vec W Z) Fault → Type 0
   Reads digits ts (Ok v) = AreWords ts (vec_items v)
   Reads digits ts (Err f) = Faults digits ts f
+
+  -- the words of all tokens are added at the end, or a fault
+  abbrev pub Adds : {T : Type 0} → Digits → List Token → List W → Result T Fault → List W → Type 0
+  Adds digits ts was (Ok x) now = map Some now ≡ map Some was ++ map (λ t. value t.bytes) ts
+  Adds digits ts was (Err f) now = Faults digits ts f

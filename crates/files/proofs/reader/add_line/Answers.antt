@@ -36,7 +36,7 @@ loop-bytes-init g c = (
 pub returns-in_err-word : goal.returns-in_err-word
 returns-in_err-word g c =
     let p = err_from_is_err_and c.from_residual.result c.from_residual.ensures.1 in
-    let cut = in_hand c.loop-bytes.invariant.0 _ _ c.loop-bytes.yielded_by (Some c.in-Some.bytes) c.next.new.self c.in-Some.bytes refl c.in-Some.ensures.steps in
+    let cut = in_hand c.loop-bytes.invariant.0 _ _ c.next.new.self c.in-Some.bytes c.loop-bytes.yielded_by c.in-Some.ensures.steps in
     rw (p.1, p.2) (line_fault g.W.Word.value g.W.Word.DIGITS c.args.line _ _ _ _ _ _ _ cut c.loop-bytes.invariant.1 c.in_err-word.ensures)
 
 pub returns : goal.returns

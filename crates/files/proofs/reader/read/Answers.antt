@@ -1,5 +1,5 @@
 -- Line by line.
-use Rattle.std.proofs.Common.{◌≡◌, map, Some, None, rules, tests, of_calls, sym, refl, ap, ◌∙◌}
+use Rattle.std.proofs.Common.{◌≡◌, map, None, rules, tests, of_calls, sym, refl, ap, ◌∙◌}
 use denote.Param.Always.{mut_by}
 use Rattle.std.specs.Slice.Iter.{split_callee}
 use Rattle.std.specs.Iterator.Adapters.{enumerate_source}
@@ -28,7 +28,7 @@ loop-index-init g c = (
 pub returns-in_err-add_line : goal.returns-in_err-add_line
 returns-in_err-add_line g c =
     let p = err_from_is_err_and c.from_residual.result c.from_residual.ensures.1 in
-    let cut = in_hand c.loop-index.invariant.0 _ _ c.loop-index.yielded_by (Some (c.in-Some.index, c.in-Some.line)) c.next.new.self (c.in-Some.index, c.in-Some.line) refl c.in-Some.ensures.steps in
+    let cut = in_hand c.loop-index.invariant.0 _ _ c.next.new.self (c.in-Some.index, c.in-Some.line) c.loop-index.yielded_by c.in-Some.ensures.steps in
     rw (p.1, p.2) (text_fault g.W.Word.value g.W.Word.DIGITS _ _ (c.in-Some.index, c.in-Some.line.now) _ _ _ cut c.loop-index.invariant.1 c.in_err-add_line.ensures)
 
 pub returns : goal.returns
