@@ -14,14 +14,14 @@ impl Token<'_> {
     fn word<W: Word>(&self, heap: Global) -> Result<W, Fault>
         ensures { IsRead W.Word.value W.Word.DIGITS (token_of self.now) result }
     {
-        match W::read(self.bytes) {
-            Some(word) => Ok(word),
-            None => Err(Fault::Malformed {
+        let Some(word) = W::read(self.bytes) else {
+            return Err(Fault::Malformed {
                 line: self.line,
                 digits: W::DIGITS,
                 found: Shown(self.bytes).to_string(heap)?,
-            }),
-        }
+            });
+        };
+        Ok(word)
     }
 }
 

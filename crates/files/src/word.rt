@@ -7,7 +7,7 @@ ghost use Rattle.files.specs.Words.{digit_count, with_digit, word_of};
 use crate::fault::Digits;
 
 impl Digits {
-    // The number itself.
+    // How many digits these are.
     fn count(self) -> usize
         ensures { result ≡ digit_count self }
     {
@@ -61,7 +61,7 @@ impl Word for u16 {
     ghost value = { word_of Four };
 
     fn read(token: &[u8]) -> Option<u16> {
-        number(Digits::Four, token).map(|number| number as u16)
+        number(Self::DIGITS, token).map(|number| number as u16)
     }
 }
 
@@ -73,6 +73,6 @@ impl Word for u32 {
     ghost value = { word_of Eight };
 
     fn read(token: &[u8]) -> Option<u32> {
-        number(Digits::Eight, token)
+        number(Self::DIGITS, token)
     }
 }
