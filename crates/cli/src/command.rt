@@ -29,7 +29,7 @@ impl FromStr for CommandName {
 }
 
 // What the program is asked to do, with the names of the files.
-#[derive(Clone, Copy)]
+#[derive(Clone, Copy, PartialEq, Eq, Debug)]
 pub enum Command<'a> {
     List { image: &'a str },
     Vet { image: &'a str, sheet: &'a str },
