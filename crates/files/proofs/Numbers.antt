@@ -13,10 +13,10 @@ use Rattle.files.specs.Words.{digit_count, with_digit, number_on, word_of}
 use Rattle.files.specs.declared.fault.Digits.{Digits}
 use Rattle.files.specs.declared.fault.Digits.TheVariants.{Four, Eight}
 
-value_small : (c d : ℕ) → value_of c ≡ Some d → d < 16
+pub value_small : (c d : ℕ) → value_of c ≡ Some d → d < 16
 value_small c d e = grind (arith, nat_tests)
 
-at_most_eight : (digits : Digits) → digit_count digits ≤ 8
+pub at_most_eight : (digits : Digits) → digit_count digits ≤ 8
 at_most_eight Four = omega arith
 at_most_eight Eight = omega arith
 

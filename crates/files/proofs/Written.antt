@@ -82,7 +82,7 @@ module _ {value : List ℕ → Option ℕ} {digits : ℕ → List ℕ} {limit : 
       ap (λ ts. map (λ (t : Token). value t.bytes) (ts ++ tokens_of (enumerate_from (n + 1) (slice_split ends_line more)))) (one_token (n + 1) (way.first w) (way.rest w) (way.high w)) ∙
       (λ i. way.back w small i ∷ lines_read (n + 1) ws all i)
 
-  reads_back : {Z : Type 0} (width : Digits) (text : List ℕ) (r : Result (Vec ℕ Z) Fault) → Reads value width (tokens text) r → ReadBack limit (line_of digits) text r
+  pub reads_back : {Z : Type 0} (width : Digits) (text : List ℕ) (r : Result (Vec ℕ Z) Fault) → Reads value width (tokens text) r → ReadBack limit (line_of digits) text r
   reads_back width text (Ok v) read ws all is =
       some_same (vec_items v) ws (sym read ∙ ap (λ l. map (λ (t : Token). value t.bytes) (tokens l)) is ∙ lines_read 0 ws all)
   reads_back width text (Err (Malformed line digits found)) (t, fault, at_line, of_width, as_shown) ws all is =
@@ -124,7 +124,7 @@ high_append : (cs bs : List ℕ) → High cs → High bs → High (cs ++ bs)
 high_append [] bs p q = q
 high_append (c ∷ cs) bs (h, p) q = (h, high_append cs bs p q)
 
-image_way : Written (word_of Four) four_digits (2 ^ 16)
+pub image_way : Written (word_of Four) four_digits (2 ^ 16)
 image_way = record {
   first = λ w. digit_of (w / 0x100 / 0x10 % 0x10);
   rest = λ w. digit_of (w / 0x100 % 0x10) ∷ digit_of (w % 0x100 / 0x10 % 0x10) ∷ digit_of (w % 0x100 % 0x10) ∷ [];
@@ -133,7 +133,7 @@ image_way = record {
   back = λ w small. four_read 0 w [] (omega arith) ∙ ap Some (let same : 0 * 0x10000 + w ≡ w = omega arith in same);
 }
 
-sheet_way : Written (word_of Eight) eight_digits (2 ^ 32)
+pub sheet_way : Written (word_of Eight) eight_digits (2 ^ 32)
 sheet_way = record {
   first = λ w. digit_of (w / 0x10000 / 0x100 / 0x10 % 0x10);
   rest = λ w. digit_of (w / 0x10000 / 0x100 % 0x10) ∷ digit_of (w / 0x10000 % 0x100 / 0x10 % 0x10) ∷ digit_of (w / 0x10000 % 0x100 % 0x10) ∷ four_digits (w % 0x10000);

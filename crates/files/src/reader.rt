@@ -25,8 +25,8 @@ impl Token<'_> {
     }
 }
 
-// Adds the words of the line with this number. The tests are function pointers, since a loop over
-// an iterator that holds a closure can have no invariant in a generic function.
+// Adds the words of the line with this number; a line with no byte has none. The tests are function pointers, since a loop
+// over an iterator that holds a closure can have no invariant in a generic function.
 fn add_line<W: Word>(
     heap: Global,
     words: &mut Vec<W>,
@@ -35,6 +35,9 @@ fn add_line<W: Word>(
 ) -> Result<(), Fault>
     ensures { Adds W.Word.value W.Word.DIGITS (line_tokens line text.now) words.old.items result words.new.items }
 {
+    if text.is_empty() {
+        return Ok(());
+    }
     let blank: fn(&u8) -> bool = is_blank;
     let filled: fn(&&[u8]) -> bool = is_filled;
     for bytes in without_comment(text).split(blank).filter(filled) {

@@ -2,14 +2,15 @@
 ghost use Rattle.std.specs.Prelude.{◌≡◌, ◌%◌, ◌<◌};
 ghost use Rattle.hexadecimal.specs.Hexadecimal.{digit_of, value_of};
 
+// The sixteen digits.
+const DIGITS: [u8; 16] = *b"0123456789ABCDEF";
+
 // The capital digit of the low four bits of a number.
 pub fn digit(n: u8) -> char
     ensures digit { result ≡ digit_of (n % 16) }
     ensures ascii { result < 128 }
 {
-    char::from_digit(u32::from(n % 16), 16)
-        .unwrap()
-        .to_ascii_uppercase()
+    char::from(DIGITS[usize::from(n % 16)])
 }
 
 // The number that a digit stands for, in either case; none where the byte is no digit.

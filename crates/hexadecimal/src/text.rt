@@ -2,6 +2,7 @@
 ghost use Rattle.std.specs.Prelude.{Some};
 ghost use Rattle.hexadecimal.specs.Hexadecimal.{two_digits, four_digits};
 
+use crate::digits::digit;
 use std::fmt;
 
 // A byte, shown as two capital digits.
@@ -16,8 +17,7 @@ impl fmt::Display for HexByte {
     ghost output = { λ b. Some (two_digits b.0) };
 
     fn fmt<W: fmt::Write>(&self, f: &mut fmt::Formatter<W>) -> fmt::Result {
-        let byte = self.0;
-        write!(f, "{byte:02X}")
+        write!(f, "{}{}", digit(self.0 / 0x10), digit(self.0))
     }
 }
 

@@ -11,7 +11,7 @@ use Rattle.vetting.specs.Parts.{WordTest, TrueAt, Found, UnbrokenBelow}
 abbrev in_order : List Rule
 in_order = MainWord ∷ MainReturn ∷ MainRegister ∷ HandlerWord ∷ HandlerReturn ∷ HandlerWrite ∷ []
 
-number_at : (k : ℕ) → k < 6 → rule_number (get_or in_order k MainWord) ≡ k + 5
+pub number_at : (k : ℕ) → k < 6 → rule_number (get_or in_order k MainWord) ≡ k + 5
 number_at k lt = grind arith
 
 rule_at : (r : Rule) (k : ℕ) → rule_number r ≡ k + 5 → r ≡ get_or in_order k MainWord

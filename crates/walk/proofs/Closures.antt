@@ -1,6 +1,7 @@
 -- One application of a rule more, and one pass more.
-use Rattle.std.proofs.Common.{◌≡◌, ℕ, ◌+◌, Bool, false, ◌||◌, inl, inr, arith}
-use Rattle.std.proofs.lemmas.Bool.{cases_eq, or_parts}
+use Rattle.std.proofs.Common.{◌≡◌, ℕ, ◌+◌, Bool, true, false, ◌||◌, inl, inr, arith}
+use Rattle.std.proofs.Math.Bool.{or-false}
+use Rattle.std.proofs.lemmas.Bool.{cases_eq, or_parts, or_right}
 use Rattle.walk.specs.declared.addresses.AddressSet.{AddressSet}
 use Rattle.walk.specs.Sets.{Has, Puts}
 use Rattle.walk.specs.Closures.{Derived, Applied}
@@ -10,6 +11,7 @@ module _ {asks : AddressSet → ℕ → ℕ → Type 0} where
   pub applied_none : {s : AddressSet} → Applied asks 0 s s false
   applied_none {s = s} = record {
     just = λ a h. Derived.given h;
+    always = λ a b lt. absurd (omega arith);
     closed = λ e a b lt. absurd (omega arith);
     grows = grown_none s;
   }
@@ -20,6 +22,10 @@ module _ {asks : AddressSet → ℕ → ℕ → Type 0} where
       let grows = grown_both s t u g n inv.grows add.grows in
       record {
         just = λ a h. elim (add.only a h) [ inl k ↦ Derived.asked t inv.just k | inr h ↦ inv.just a h ];
+        always = λ a b lt k. elim (cases_eq a i) [
+          | inl q ↦ add.holds b (rw q at (k t))
+          | inr ne ↦ add.grows.keeps b (inv.always a b (omega arith) k)
+        ];
         closed = λ e a b lt k. elim (cases_eq a i) [
           | inl q ↦
               let here : asks t i b = rw (inv.grows.same (or_parts g n e).0) (rw q at k) in
@@ -28,6 +34,15 @@ module _ {asks : AddressSet → ℕ → ℕ → Type 0} where
         ];
         grows = grows;
       }
+
+  -- the same where a branch tells of the growth
+  pub applied_grown : {i m : ℕ} {s t u : AddressSet} {g n : Bool} → m ≡ i + 1 → n ≡ true → Applied asks i s t g →
+      Puts (asks t i) t u n → Applied asks m s u true
+  applied_grown {g = g} {n = n} one e inv add = rw (or_right g n e) at (applied_more one inv add)
+
+  pub applied_still : {i m : ℕ} {s t u : AddressSet} {g n : Bool} → m ≡ i + 1 → n ≡ false → Applied asks i s t g →
+      Puts (asks t i) t u n → Applied asks m s u g
+  applied_still {g = g} one e inv add = rw (e, or-false g) at (applied_more one inv add)
 
   -- what is derived from a set of addresses derived from s is derived from s
   pub derived_of : {s t : AddressSet} → ((a : ℕ) → Has t a → Derived asks s a) → {a : ℕ} → Derived asks t a → Derived asks s a

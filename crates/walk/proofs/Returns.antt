@@ -13,7 +13,7 @@ use Rattle.walk.specs.Rules.{returns_of, AsksReturns}
 
 module _ (p : Graph) (s : AddressSet) where
   -- the test tells the truth of sets that do
-  returns_just : (a : ℕ) → ((b : ℕ) → Has s b → Returning p b) → returns_of s a (p a) ≡ true → Returning p a
+  pub returns_just : (a : ℕ) → ((b : ℕ) → Has s b → Returning p b) → returns_of s a (p a) ≡ true → Returning p a
   returns_just a just = go (p a) refl
     where
       go : (f : Flow) → p a ≡ f → returns_of s a f ≡ true → Returning p a
@@ -39,7 +39,7 @@ module _ (p : Graph) (s : AddressSet) where
   goes_returns a b Return g h = absurd g
 
   -- a set that holds each address that the test names holds all
-  returns_all : ((a : ℕ) → returns_of s a (p a) ≡ true → Has s a) → {a : ℕ} → Returning p a → Has s a
+  pub returns_all : ((a : ℕ) → returns_of s a (p a) ≡ true → Has s a) → {a : ℕ} → Returning p a → Has s a
   returns_all closed (Returning.here {a = a} e) = closed a (rw e refl)
   returns_all closed (Returning.later {a = a} {b = b} g x) = closed a (goes_returns a b (p a) g (returns_all closed x))
   returns_all closed (Returning.behind {a = a} {t = t} e x y) =

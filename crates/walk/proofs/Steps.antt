@@ -6,7 +6,7 @@ use Rattle.walk.specs.declared.flow.Flow.TheVariants.{Next, Branch, Jump, Call, 
 use Rattle.walk.specs.Sets.{has, Has, Within}
 use Rattle.walk.specs.Walk.{Graph, graph, Goes}
 use Rattle.walk.specs.Frames.{Returning, Step, Spread, Entered, Base, Level}
-use Rattle.walk.specs.Closures.{Derived, IsClosure}
+use Rattle.walk.specs.Closures.{Derived, Applied, IsClosure}
 use Rattle.walk.specs.Rules.{Follows, AsksSteps, AsksCalls}
 use Rattle.walk.proofs.Levels.{spreads}
 
@@ -64,12 +64,13 @@ module _ (flows : List Flow) (from s t : AddressSet) (none : (a : ℕ) → Has s
   derived_entered (Derived.given h) = absurd (none _ h)
   derived_entered (Derived.asked u before k) = Entered.entered k.0 k.1
 
-  -- the closure of the empty set under the rule of calls is the set of the targets of calls
-  pub calls : Within from → IsClosure (AsksCalls flows from) s t → (b : ℕ) → Has t b ↔ Entered (graph flows) (Has from) b
+  -- one pass of the rule of calls makes the empty set the set of the targets of calls
+  pub calls : Within from → {grown : Bool} → Applied (AsksCalls flows from) 256 s t grown →
+      (b : ℕ) → Has t b ↔ Entered (graph flows) (Has from) b
   calls within c b = (λ h. derived_entered (c.just b h), back)
     where
       back : {b : ℕ} → Entered (graph flows) (Has from) b → Has t b
-      back (Entered.entered {a = a} {t = b} h e) = c.all a b (within a h) (h, e)
+      back (Entered.entered {a = a} {t = b} h e) = c.always a b (within a h) (λ u. (h, e))
 
 entered_in : {p : Graph} {b : ℕ} (from into : ℕ → Type 0) → ((a : ℕ) → from a → into a) → Entered p from b → Entered p into b
 entered_in from into all (Entered.entered {a = a} h e) = Entered.entered (all a h) e

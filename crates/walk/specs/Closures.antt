@@ -9,9 +9,11 @@ module _ (asks : AddressSet → ℕ → ℕ → Type 0) where
     given : {a : ℕ} → Has from a → Derived from a
     asked : {a b : ℕ} (s : AddressSet) → ((c : ℕ) → Has s c → Derived from c) → asks s a b → Derived from b
 
-  -- s became t as the rule was applied at the addresses below n
+  -- s became t as the rule was applied at the addresses below n: t has what the rule asks for whatever the set, and, if it
+  -- did not grow, all that the rule asks for
   pub record Applied (n : ℕ) (s t : AddressSet) (grown : Bool) : Type 0 where
     pub just : (a : ℕ) → Has t a → Derived s a
+    pub always : (a b : ℕ) → a < n → ((u : AddressSet) → asks u a b) → Has t b
     pub closed : grown ≡ false → (a b : ℕ) → a < n → asks s a b → Has s b
     pub grows : Grown s t grown
 

@@ -17,20 +17,30 @@ pub(crate) trait Rule {
 }
 
 // Applies a rule once at each address, and tells whether the set grew.
-fn pass<R: Rule>(rule: &R, set: &mut AddressSet) -> bool
+pub(crate) fn pass<R: Rule>(rule: &R, set: &mut AddressSet) -> bool
     ensures { Applied (R.asks rule.now) 256 set.old set.new result }
 {
     let mut grown = false;
     for at in 0..=u8::MAX {
-        grown |= rule.apply(at, set);
+        if rule.apply(at, set) {
+            grown = true;
+        }
     }
     grown
+}
+
+// A pass that stays a call when compiled: with its loop joined to the one of `close`, each address takes twice as long.
+#[inline(never)]
+fn called_pass<R: Rule>(rule: &R, set: &mut AddressSet) -> bool
+    ensures { Applied (R.asks rule.now) 256 set.old set.new result }
+{
+    pass(rule, set)
 }
 
 // The closure of a set under a rule.
 pub(crate) fn close<R: Rule>(rule: &R, mut set: AddressSet) -> AddressSet
     ensures { IsClosure (R.asks rule.now) set result }
 {
-    while pass(rule, &mut set) {}
+    while called_pass(rule, &mut set) {}
     set
 }

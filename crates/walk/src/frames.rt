@@ -6,7 +6,7 @@ ghost use Rattle.walk.specs.Frames.{Returning, Entered};
 ghost use Rattle.walk.specs.Rules.{returns_of, Follows, AsksReturns, AsksSteps, AsksDeep, AsksCalls};
 
 use crate::addresses::AddressSet;
-use crate::closure::{Rule, close};
+use crate::closure::{Rule, close, pass};
 use crate::flow::Flow;
 
 // The rule by which the addresses are found from which a frame returns.
@@ -33,10 +33,10 @@ fn returns_from(flow: Flow, at: u8, returning: &AddressSet) -> bool
 impl Rule for Returns<'_> {
     ghost asks = { λ rule. AsksReturns rule.flows.now };
 
-    // From the last address to the first, since most words lead on to the next.
+    // From the last address to the first, since most words lead on to the next. What is in the set is not asked for again.
     fn apply(&self, at: u8, set: &mut AddressSet) -> bool {
         let at = u8::MAX - at;
-        returns_from(self.flows[usize::from(at)], at, set) && set.insert(at)
+        !set.contains(at) && returns_from(self.flows[usize::from(at)], at, set) && set.insert(at)
     }
 }
 
@@ -84,12 +84,14 @@ impl Frames<'_> {
         }
     }
 
-    // What the addresses of a set call.
+    // What the addresses of a set call. One pass finds it, since the rule does not look at the set that it fills.
     #[tactic(auto, using(crate::proofs::Steps::calls, crate::proofs::Sets::within))]
     pub(crate) fn entered(&self, from: &AddressSet) -> AddressSet
         ensures { (t : ℕ) → Has result t ↔ Entered (graph self.now.flows.now) (Has from.now) t }
     {
-        close(&Calls { frames: self, from }, AddressSet::new())
+        let mut targets = AddressSet::new();
+        pass(&Calls { frames: self, from }, &mut targets);
+        targets
     }
 
     // The length of the longest list that the walk from a start reaches, unless it passes the limit.
