@@ -37,6 +37,12 @@ Asked arguments (Ok ShowHelp) = arguments ≡ name_of Help ∷ []
 Asked arguments (Err Unknown) = (c : CommandName) → Named arguments c → ⊥
 Asked arguments (Err (Files c)) = Named arguments c × (length arguments ≢ arguments_of c)
 
+-- the name of a command that is named and has as many arguments as it takes, or what is wrong
+abbrev pub NameAsked : List (List ℕ) → Result CommandName Usage → Type 0
+NameAsked arguments (Ok c) = Named arguments c × (length arguments ≡ arguments_of c)
+NameAsked arguments (Err Unknown) = (c : CommandName) → Named arguments c → ⊥
+NameAsked arguments (Err (Files c)) = Named arguments c × (length arguments ≢ arguments_of c)
+
 -- the form of a command with its files
 abbrev pub form_of : CommandName → List ℕ
 form_of list = codes "list IMAGE"

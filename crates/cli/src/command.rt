@@ -1,6 +1,6 @@
 // The commands, and the arguments that they take.
-ghost use Rattle.std.specs.Prelude.{◌≡◌, map, string_bytes};
-ghost use Rattle.cli.specs.Arguments.{Asked, Found};
+ghost use Rattle.std.specs.Prelude.{◌≡◌, map, length, IfOk, string_bytes};
+ghost use Rattle.cli.specs.Arguments.{arguments_of, Asked, Found, NameAsked};
 
 use crate::usage::Usage;
 use std::str::FromStr;
@@ -53,4 +53,16 @@ pub fn parse(arguments: &[String]) -> Result<Command<'_>, Usage>
         (CommandName::Help, []) => Ok(Command::Help),
         _ => Err(Usage::Files(name)),
     }
+}
+
+// The name of the command that the arguments ask for, where they are as many as it takes. The answer borrows nothing.
+pub fn command_name(arguments: &[String]) -> Result<CommandName, Usage>
+    ensures asked { NameAsked (map string_bytes arguments.now) result }
+    ensures count { IfOk result (λ c. length arguments.now ≡ arguments_of c) }
+{
+    Ok(match parse(arguments)? {
+        Command::List { .. } => CommandName::List,
+        Command::Vet { .. } => CommandName::Vet,
+        Command::Help => CommandName::Help,
+    })
 }

@@ -4,5 +4,5 @@
 mod command;
 mod usage;
 
-pub use command::{Command, CommandName, parse};
+pub use command::{Command, CommandName, command_name, parse};
 pub use usage::{HELP, Usage};

@@ -64,13 +64,18 @@ module _ (flows : List Flow) (from s t : AddressSet) (none : (a : ℕ) → Has s
   derived_entered (Derived.given h) = absurd (none _ h)
   derived_entered (Derived.asked u before k) = Entered.entered k.0 k.1
 
-  -- one pass of the rule of calls makes the empty set the set of the targets of calls
-  pub calls : Within from → {grown : Bool} → Applied (AsksCalls flows from) 256 s t grown →
-      (b : ℕ) → Has t b ↔ Entered (graph flows) (Has from) b
+  -- the closure of the empty set under the rule of calls is the set of the targets of calls
+  pub calls : Within from → IsClosure (AsksCalls flows from) s t → (b : ℕ) → Has t b ↔ Entered (graph flows) (Has from) b
   calls within c b = (λ h. derived_entered (c.just b h), back)
     where
       back : {b : ℕ} → Entered (graph flows) (Has from) b → Has t b
-      back (Entered.entered {a = a} {t = b} h e) = c.always a b (within a h) (λ u. (h, e))
+      back (Entered.entered {a = a} {t = b} h e) = c.all a b (within a h) (h, e)
+
+  -- one pass makes that closure, since the rule does not look at the set that it fills
+  pub calls_at_once : Within from → {grown : Bool} → Applied (AsksCalls flows from) 256 s t grown →
+      (b : ℕ) → Has t b ↔ Entered (graph flows) (Has from) b
+  calls_at_once within c =
+      calls within (record { keeps = c.grows.keeps; just = c.just; all = λ a b lt k. c.always a b lt (λ u. k) })
 
 entered_in : {p : Graph} {b : ℕ} (from into : ℕ → Type 0) → ((a : ℕ) → from a → into a) → Entered p from b → Entered p into b
 entered_in from into all (Entered.entered {a = a} h e) = Entered.entered (all a h) e

@@ -85,7 +85,7 @@ impl Frames<'_> {
     }
 
     // What the addresses of a set call. One pass finds it, since the rule does not look at the set that it fills.
-    #[tactic(auto, using(crate::proofs::Steps::calls, crate::proofs::Sets::within))]
+    #[tactic(auto, using(crate::proofs::Steps::calls_at_once, crate::proofs::Sets::within))]
     pub(crate) fn entered(&self, from: &AddressSet) -> AddressSet
         ensures { (t : ℕ) → Has result t ↔ Entered (graph self.now.flows.now) (Has from.now) t }
     {
