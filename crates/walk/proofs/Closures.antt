@@ -1,7 +1,6 @@
 -- One application of a rule more, and one pass more.
-use Rattle.std.proofs.Common.{◌≡◌, ℕ, ◌+◌, Bool, true, false, ◌||◌, inl, inr, arith}
-use Rattle.std.proofs.Math.Bool.{or-false}
-use Rattle.std.proofs.lemmas.Bool.{cases_eq, or_parts, or_right}
+use Rattle.std.proofs.Common.{◌≡◌, ℕ, ◌+◌, Bool, false, ◌||◌, inl, inr, arith}
+use Rattle.std.proofs.lemmas.Bool.{cases_eq, or_parts}
 use Rattle.walk.specs.declared.addresses.AddressSet.{AddressSet}
 use Rattle.walk.specs.Sets.{Has, Puts}
 use Rattle.walk.specs.Closures.{Derived, Applied}
@@ -34,15 +33,6 @@ module _ {asks : AddressSet → ℕ → ℕ → Type 0} where
         ];
         grows = grows;
       }
-
-  -- the same where a branch tells of the growth
-  pub applied_grown : {i m : ℕ} {s t u : AddressSet} {g n : Bool} → m ≡ i + 1 → n ≡ true → Applied asks i s t g →
-      Puts (asks t i) t u n → Applied asks m s u true
-  applied_grown {g = g} {n = n} one e inv add = rw (or_right g n e) at (applied_more one inv add)
-
-  pub applied_still : {i m : ℕ} {s t u : AddressSet} {g n : Bool} → m ≡ i + 1 → n ≡ false → Applied asks i s t g →
-      Puts (asks t i) t u n → Applied asks m s u g
-  applied_still {g = g} one e inv add = rw (e, or-false g) at (applied_more one inv add)
 
   -- what is derived from a set of addresses derived from s is derived from s
   pub derived_of : {s t : AddressSet} → ((a : ℕ) → Has t a → Derived asks s a) → {a : ℕ} → Derived asks t a → Derived asks s a

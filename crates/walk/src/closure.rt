@@ -22,9 +22,7 @@ pub(crate) fn pass<R: Rule>(rule: &R, set: &mut AddressSet) -> bool
 {
     let mut grown = false;
     for at in 0..=u8::MAX {
-        if rule.apply(at, set) {
-            grown = true;
-        }
+        grown |= rule.apply(at, set);
     }
     grown
 }
